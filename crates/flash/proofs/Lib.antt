@@ -1,0 +1,4 @@
+pub mod Over
+pub mod Refusals
+pub mod Runs
+pub mod Settled
