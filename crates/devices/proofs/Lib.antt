@@ -1,2 +1,4 @@
 pub mod Bytes
+pub mod Blocks
 pub mod NorRefusals
+pub mod NorCalls

@@ -11,10 +11,11 @@ use Rattle.std.specs.declared.option.Option.the-variants.{Some, None}
 use Rattle.flash.specs.declared.refusal.Refusal.{Refusal}
 use Rattle.flash.specs.declared.refusal.Refusal.the-variants.{NoPower, Outside, NotPages, BelowMark}
 use Rattle.flash.specs.Refused.{is-off, first, cuts-pages, place-refusal, program-refusal, other-held}
-use Rattle.flash.proofs.Refusals.{Inside, place-inside, program-by-place, program-past-place, none-other, of-program}
+use Rattle.flash.proofs.Refusals.{Inside, place-inside, Accepted, accepted, program-by-place, program-past-place, none-other, of-program}
 use Rattle.devices.specs.declared.supply.Supply.{Supply}
 use Rattle.devices.specs.declared.supply.Supply.the-variants.{Steady, Armed, Off}
-use Rattle.devices.specs.Memory.{part-of, power-of, used}
+use Rattle.devices.specs.Steps.{power-of}
+use Rattle.devices.specs.Memory.{part-of, used, Within}
 use Rattle.devices.specs.Nor.{SIZE, mark-of, nor, leaves}
 use Rattle.devices.proofs.Bytes.{used-le}
 
@@ -35,15 +36,6 @@ module _ (mem : List ℕ) (s : Supply) (b o n : ℕ) where
   pub place-none : is-off (power-of s) ≡ false → false ≡ leaves (length mem) b o n → None ≡ place-refusal (nor mem s) b o n
   unfolding nor place-refusal SIZE
   place-none on l = rw (on, ← l)
-
-  -- a place that is not refused lies in the memory
-  pub record Lies : Type 0 where
-    pub there : b < length mem / 4096
-    pub fits : o + n ≤ 4096
-
-  pub lies : None ≡ place-refusal (nor mem s) b o n → Lies
-  unfolding nor SIZE
-  lies e = let i = place-inside (nor mem s) b o n (sym e) in record { there = omega (arith, i .there); fits = i .fits }
 
   pub nothing-held : other-held (nor mem s) b ≡ false
   unfolding nor
@@ -69,6 +61,13 @@ module _ (mem : List ℕ) (s : Supply) (b o n : ℕ) where
     pub program-none : o % 4 ≡ 0 → n % 4 ≡ 0 → mark-of (part-of SIZE mem b) ≤ o → None ≡ program-refusal (nor mem s) b o n
     unfolding nor
     program-none p q h = sym (left-over ∙ rw (eq-eqb (o % 4) 0 p, eq-eqb (n % 4) 0 q, le-ltb o (mark-of (part-of SIZE mem b)) h, nothing-held))
+
+-- what is not refused lies in the memory
+pub within : (mem : List ℕ) (s : Supply) (b o n : ℕ) → None ≡ place-refusal (nor mem s) b o n → Within (length mem) b o n (b * 4096 + o)
+unfolding nor SIZE
+within mem s b o n e =
+    let i = place-inside (nor mem s) b o n (sym e) in
+    (refl, i .fits, omega (arith, i .there))
 
 pub program-place : (mem : List ℕ) (s : Supply) (b o n : ℕ) (e : Refusal) → Some e ≡ place-refusal (nor mem s) b o n → Some e ≡ program-refusal (nor mem s) b o n
 program-place mem s b o n e h = sym (program-by-place (nor mem s) b o n e (sym h))

@@ -4,16 +4,16 @@
 -- used       how far bytes reach before nothing but 0xFF is left
 -- ored       bytes, each with the fault's bits set
 -- outcome    what a call answers, and the memory and the supply after it
+-- Within     where bytes of a block lie in the memory
+use mathlib.Core.Path.{_≡_}
 use mathlib.Core.Bool.{Bool, cond}
 use mathlib.Core.List.{List, [], _∷_, _++_, map}
-use Prim.Native.Nat.{ℕ, zero, suc, _+_, _*_}
+use Prim.Native.Nat.{ℕ, zero, suc, _+_, _*_, _≤_}
 use lib.Bits.{bitOr}
 use lib.Dec.{eqb}
 use lib.ListN.{take, drop}
-use Rattle.flash.specs.Meaning.{Power, steady, armed, off}
 use Rattle.flash.specs.Rules.{Answer}
 use Rattle.devices.specs.declared.supply.Supply.{Supply}
-use Rattle.devices.specs.declared.supply.Supply.the-variants.{Steady, Armed, Off}
 
 abbrev pub part-of : ℕ → List ℕ → ℕ → List ℕ
 part-of size mem b = take size (drop (b * size) mem)
@@ -29,11 +29,6 @@ used (x ∷ xs) = bump x (used xs)
 abbrev pub ored : ℕ → List ℕ → List ℕ
 ored j = map (λ x. bitOr x j)
 
-abbrev pub power-of : Supply → Power
-power-of Steady = steady
-power-of (Armed left j) = armed
-power-of Off = off
-
 pub record Outcome : Type 0 where
   pub answer : Answer
   pub mem : List ℕ
@@ -41,3 +36,7 @@ pub record Outcome : Type 0 where
 
 abbrev pub outcome : Answer → List ℕ → Supply → Outcome
 outcome r m s = record { answer = r; mem = m; supply = s }
+
+-- n bytes at the offset o of the block b begin at a byte of the memory, and lie in the block and in len bytes
+abbrev pub Within : ℕ → ℕ → ℕ → ℕ → ℕ → Type 0
+Within len b o n from = (from ≡ b * 4096 + o) × (o + n ≤ 4096) × (b * 4096 + 4096 ≤ len)

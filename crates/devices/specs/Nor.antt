@@ -11,15 +11,18 @@ use lib.Dec.{eqb, ltb, leb}
 use lib.ListN.{length, take, drop, replicate}
 use Rattle.std.specs.declared.option.Option.{Option}
 use Rattle.std.specs.declared.option.Option.the-variants.{Some, None}
+use Rattle.std.specs.declared.result.Result.{Result}
 use Rattle.std.specs.declared.result.Result.the-variants.{Ok, Err}
 use Rattle.flash.specs.declared.refusal.Refusal.{Refusal}
 use Rattle.flash.specs.declared.refusal.Refusal.the-variants.{NoPower}
 use Rattle.flash.specs.Cells.{cells, over}
 use Rattle.flash.specs.Meaning.{Meaning}
 use Rattle.flash.specs.Refused.{program-refusal, erase-refusal, arm-refusal}
+use Rattle.devices.specs.declared.supply.Cut.{Cut}
 use Rattle.devices.specs.declared.supply.Supply.{Supply}
 use Rattle.devices.specs.declared.supply.Supply.the-variants.{Steady, Armed, Off}
-use Rattle.devices.specs.Memory.{part-of, used, ored, power-of, Outcome, outcome}
+use Rattle.devices.specs.Steps.{spent, power-of}
+use Rattle.devices.specs.Memory.{part-of, used, ored, Outcome, outcome}
 
 -- the bytes of a block; shut, so that no proof counts to it
 unfoldable pub SIZE : ℕ
@@ -41,36 +44,30 @@ nor mem s = record
 abbrev pub leaves : ℕ → ℕ → ℕ → ℕ → Bool
 leaves len b o n = cond (ltb b (min (len / 4096) 16)) (ltb 4096 (o + n)) true
 
--- what reaches the chip of a run whose page after the first left ones fails: these pages, and that one with the fault
-unfoldable pub cut-run : ℕ → ℕ → List ℕ → List ℕ
-cut-run left j run = take (left * 4) run ++ ored j (take 4 (drop (left * 4) run))
+-- what reaches the chip of a run whose page after the first ones fails: these pages, and that one with the fault
+unfoldable pub cut-run : Cut → List ℕ → List ℕ
+cut-run c run = take (c .after * 4) run ++ ored (c .fault) (take 4 (drop (c .after * 4) run))
 
--- a program of whole pages from the byte a of the memory on; each page is a step
-unfoldable pub laid : List ℕ → Supply → ℕ → List ℕ → Outcome
-laid mem Steady a run = outcome (Ok tt) (over mem a run) Steady
-laid mem (Armed left j) a run =
-    cond (ltb left (length run / 4))
-      (outcome (Err NoPower) (over mem a (cut-run left j run)) Off)
-      (outcome (Ok tt) (over mem a run) (Armed (left - length run / 4) j))
-laid mem Off a run = outcome (Err NoPower) mem Off
+-- a program of whole pages from the byte a of the memory on: each page is a step
+abbrev pub laid : List ℕ → ℕ → List ℕ → Result Supply Cut → Outcome
+laid mem a run (Ok s) = outcome (Ok tt) (over mem a run) s
+laid mem a run (Err c) = outcome (Err NoPower) (over mem a (cut-run c run)) Off
 
--- an erase of the block at the byte a of the memory; it is one step
-unfoldable pub wiped : List ℕ → Supply → ℕ → Outcome
-wiped mem Steady a = outcome (Ok tt) (over mem a (replicate SIZE 255)) Steady
-wiped mem (Armed zero j) a = outcome (Err NoPower) (over mem a (ored j (take SIZE (drop a mem)))) Off
-wiped mem (Armed (suc left) j) a = outcome (Ok tt) (over mem a (replicate SIZE 255)) (Armed left j)
-wiped mem Off a = outcome (Err NoPower) mem Off
+-- an erase of the block at the byte a of the memory: one step
+abbrev pub wiped : List ℕ → ℕ → Result Supply Cut → Outcome
+wiped mem a (Ok s) = outcome (Ok tt) (over mem a (replicate SIZE 255)) s
+wiped mem a (Err c) = outcome (Err NoPower) (over mem a (ored (c .fault) (take SIZE (drop a mem)))) Off
 
--- a call that may be refused from the start
+-- a call, unless it is refused from the start
 abbrev pub unless : Option Refusal → List ℕ → Supply → Outcome → Outcome
 unless (Some e) mem s o = outcome (Err e) mem s
 unless None mem s o = o
 
 unfoldable pub nor-program : List ℕ → Supply → ℕ → ℕ → List ℕ → Outcome
-nor-program mem s b o run = unless (program-refusal (nor mem s) b o (length run)) mem s (laid mem s (b * SIZE + o) run)
+nor-program mem s b o run = unless (program-refusal (nor mem s) b o (length run)) mem s (laid mem (b * SIZE + o) run (spent s (length run / 4)))
 
 unfoldable pub nor-erase : List ℕ → Supply → ℕ → Outcome
-nor-erase mem s b = unless (erase-refusal (nor mem s) b) mem s (wiped mem s (b * SIZE))
+nor-erase mem s b = unless (erase-refusal (nor mem s) b) mem s (wiped mem (b * SIZE) (spent s 1))
 
 unfoldable pub nor-arm : List ℕ → Supply → ℕ → ℕ → Outcome
 nor-arm mem s n j = unless (arm-refusal (nor mem s)) mem s (outcome (Ok tt) mem (Armed n j))

@@ -5,10 +5,12 @@ ghost use Prim.Native.Nat.{ℕ, _+_, _*_, _/_, _<_, _≤_, min};
 ghost use lib.ListN.{length, take, drop};
 ghost use Rattle.std.specs.Results.{Cases};
 ghost use Rattle.flash.specs.Refused.{place-refusal, program-refusal};
-ghost use Rattle.devices.specs.Memory.{part-of, outcome};
+ghost use Rattle.flash.specs.Rules.{answered};
+ghost use Rattle.devices.specs.Memory.{part-of, outcome, Within};
 ghost use Rattle.devices.specs.Nor.{SIZE, mark-of, nor, leaves, holds-blocks, nor-program, nor-erase, nor-arm};
 
 use crate::memory::reach;
+use crate::memory::spoil;
 use crate::memory::tear;
 use crate::memory::wipe;
 use crate::supply::Supply;
@@ -57,17 +59,18 @@ impl Nor<'_> {
         at.offset > BLOCK - n
     }
 
-    // Why a call for n bytes at a place is refused, if it is.
-    pub(crate) fn place_refusal(&self, at: Place, n: usize) -> Option<Refusal>
-        ensures { λ r. ⌜ r ≡ place-refusal (nor (now (now (self .entry) .memory)) (now (self .entry) .supply)) (at .block) (at .offset) n ⌝ }
+    // Where in the memory n bytes at a place begin, or why a call for them is refused.
+    pub(crate) fn locate(&self, at: Place, n: usize) -> Result<usize, Refusal>
+        ensures value { λ r. ⌜ r ≡ answered (place-refusal (nor (now (now (self .entry) .memory)) (now (self .entry) .supply)) (at .block) (at .offset) n) (at .block * 4096 + at .offset) ⌝ }
+        ensures within { λ r. ⌜ Cases r (λ from. Within (length (now (now (self .entry) .memory))) (at .block) (at .offset) n from) (λ _. Unit {0}) ⌝ }
     {
         if let Supply::Off = self.supply {
-            return Some(Refusal::NoPower);
+            return Err(Refusal::NoPower);
         }
         if self.leaves(at, n) {
-            return Some(Refusal::Outside);
+            return Err(Refusal::Outside);
         }
-        None
+        Ok(at.block * BLOCK + at.offset)
     }
 
     // The end of the last page of a block that is not all 0xFF.
@@ -79,19 +82,58 @@ impl Nor<'_> {
         (reach(&self.memory[from..from + BLOCK]) + 3) / PAGE * PAGE
     }
 
-    // Why a program of n bytes at a place is refused, if it is.
-    pub(crate) fn program_refusal(&self, at: Place, n: usize) -> Option<Refusal>
-        ensures { λ r. ⌜ r ≡ program-refusal (nor (now (now (self .entry) .memory)) (now (self .entry) .supply)) (at .block) (at .offset) n ⌝ }
+    // Where in the memory a program of n bytes begins, or why it is refused.
+    pub(crate) fn locate_blank(&self, at: Place, n: usize) -> Result<usize, Refusal>
+        ensures value { λ r. ⌜ r ≡ answered (program-refusal (nor (now (now (self .entry) .memory)) (now (self .entry) .supply)) (at .block) (at .offset) n) (at .block * 4096 + at .offset) ⌝ }
+        ensures within { λ r. ⌜ Cases r (λ from. Within (length (now (now (self .entry) .memory))) (at .block) (at .offset) n from) (λ _. Unit {0}) ⌝ }
     {
-        if let Some(e) = self.place_refusal(at, n) {
-            return Some(e);
-        }
+        let from = self.locate(at, n)?;
         if at.offset % PAGE != 0 || n % PAGE != 0 {
-            return Some(Refusal::NotPages);
+            return Err(Refusal::NotPages);
         }
         if at.offset < self.mark_of(at.block) {
-            return Some(Refusal::BelowMark);
+            return Err(Refusal::BelowMark);
         }
-        None
+        Ok(from)
+    }
+
+    // Lays a run of whole pages. Each page is a step, and the one that fails takes the fault.
+    pub(crate) fn lay(&mut self, at: Place, bytes: &[u8]) -> Result<(), Refusal>
+        ensures { λ r. ⌜ outcome r (now (now (self .exit) .memory)) (now (self .exit) .supply) ≡ nor-program (now (now (self .entry) .memory)) (now (self .entry) .supply) (at .block) (at .offset) (now (bytes .entry)) ⌝ }
+    {
+        let n = bytes.len();
+        let from = self.locate_blank(at, n)?;
+        match self.supply.spend(n / PAGE) {
+            Ok(supply) => {
+                self.memory[from..from + n].copy_from_slice(bytes);
+                self.supply = supply;
+                Ok(())
+            }
+            Err(cut) => {
+                let end = (cut.after + 1) * PAGE;
+                tear(&mut self.memory[from..from + end], &bytes[0..end], PAGE, cut.fault);
+                self.supply = Supply::Off;
+                Err(Refusal::NoPower)
+            }
+        }
+    }
+
+    // Erases a block, which is one step. One that fails sets the fault's bits in the block.
+    pub(crate) fn clear(&mut self, block: usize) -> Result<(), Refusal>
+        ensures { λ r. ⌜ outcome r (now (now (self .exit) .memory)) (now (self .exit) .supply) ≡ nor-erase (now (now (self .entry) .memory)) (now (self .entry) .supply) block ⌝ }
+    {
+        let from = self.locate(Place { block, offset: 0 }, 0)?;
+        match self.supply.spend(1) {
+            Ok(supply) => {
+                wipe(&mut self.memory[from..from + BLOCK]);
+                self.supply = supply;
+                Ok(())
+            }
+            Err(cut) => {
+                spoil(&mut self.memory[from..from + BLOCK], cut.fault);
+                self.supply = Supply::Off;
+                Err(Refusal::NoPower)
+            }
+        }
     }
 }

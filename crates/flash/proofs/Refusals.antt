@@ -9,14 +9,25 @@ use lib.Dec.{eqb, ltb}
 use Rattle.std.proofs.shelf.Tests.{cases-lt, cases-eq, ltb-true, ltb-false, eqb-true, eq-eqb, lt-ltb, le-ltb, ne-eqb, true≢false}
 use Rattle.std.specs.declared.option.Option.{Option}
 use Rattle.std.specs.declared.option.Option.the-variants.{Some, None}
+use Rattle.std.specs.declared.result.Result.the-variants.{Ok, Err}
 use Rattle.flash.specs.declared.refusal.Refusal.{Refusal}
 use Rattle.flash.specs.declared.refusal.Refusal.the-variants.{NoPower, Outside, NotPages, BelowMark, OtherHeld, Unreadable}
 use Rattle.flash.specs.Cells.{Cell, byte, lost}
 use Rattle.flash.specs.Meaning.{Meaning}
+use Rattle.flash.specs.Rules.{answered}
 use Rattle.flash.specs.Refused.{is-off, outside, same-cells, holds, of-another, other-held, first, place-causes, place-refusal, cuts-pages, program-causes, program-refusal, readable, part, read-refusal}
 
 pub not-some : {e : Refusal} → Some e ≡ None → ⊥
 not-some h = let z : _≡_ {A = ℕ} 0 1 = cc in omega arith
+
+-- an answer tells what was refused
+pub refused-as : (x : Option Refusal) (k : ℕ) (e : Refusal) → Err e ≡ answered x k → x ≡ Some e
+refused-as None k e h = absurd (let z : _≡_ {A = ℕ} 0 1 = cc in omega arith)
+refused-as (Some f) k e h = cc
+
+pub not-refused : (x : Option Refusal) (k n : ℕ) → Ok n ≡ answered x k → x ≡ None
+not-refused None k n h = refl
+not-refused (Some f) k n h = absurd (let z : _≡_ {A = ℕ} 0 1 = cc in omega arith)
 
 abbrev pub test-at : List (Bool × Refusal) → ℕ → Bool
 test-at [] k = false
