@@ -2,7 +2,7 @@
 --
 -- nor             what a NOR chip means, by its memory and its supply of power
 -- nor-program     a program, whole: what it answers, and the memory and the steps left after it
--- nor-erase, nor-arm, nor-restart   likewise
+-- nor-erase, nor-arm   likewise
 -- holds-blocks    whether so many bytes are 4 to 16 whole blocks
 use mathlib.Core.Bool.{Bool, true, false, cond}
 use mathlib.Core.List.{List, [], _∷_, _++_}
@@ -17,11 +17,11 @@ use Rattle.flash.specs.declared.refusal.Refusal.{Refusal}
 use Rattle.flash.specs.declared.refusal.Refusal.the-variants.{NoPower}
 use Rattle.flash.specs.Cells.{cells, over}
 use Rattle.flash.specs.Meaning.{Meaning}
-use Rattle.flash.specs.Refused.{program-refusal, erase-refusal, arm-refusal}
+use Rattle.flash.specs.Refused.{program-refusal, erase-refusal}
 use Rattle.devices.specs.declared.supply.Cut.{Cut}
 use Rattle.devices.specs.declared.supply.Supply.{Supply}
 use Rattle.devices.specs.declared.supply.Supply.the-variants.{Steady, Armed, Off}
-use Rattle.devices.specs.Steps.{spent, power-of}
+use Rattle.devices.specs.Steps.{spent, arming, power-of}
 use Rattle.devices.specs.Memory.{part-of, used, ored, Outcome, outcome}
 
 -- the bytes of a block; shut, so that no proof counts to it
@@ -69,8 +69,12 @@ nor-program mem s b o run = unless (program-refusal (nor mem s) b o (length run)
 unfoldable pub nor-erase : List ℕ → Supply → ℕ → Outcome
 nor-erase mem s b = unless (erase-refusal (nor mem s) b) mem s (wiped mem (b * SIZE) (spent s 1))
 
-unfoldable pub nor-arm : List ℕ → Supply → ℕ → ℕ → Outcome
-nor-arm mem s n j = unless (arm-refusal (nor mem s)) mem s (outcome (Ok tt) mem (Armed n j))
+abbrev pub rearmed : List ℕ → Supply → Result Supply Refusal → Outcome
+rearmed mem s (Ok s′) = outcome (Ok tt) mem s′
+rearmed mem s (Err e) = outcome (Err e) mem s
+
+abbrev pub nor-arm : List ℕ → Supply → ℕ → ℕ → Outcome
+nor-arm mem s n j = rearmed mem s (arming s n j)
 
 abbrev pub holds-blocks : ℕ → Bool
 holds-blocks n = cond (eqb (n % 4096) 0) (cond (leb 16384 n) (leb n 65536) false) false

@@ -5,7 +5,9 @@ ghost use Prim.Native.Nat.{ℕ, _+_, _*_, _/_, _<_, _≤_, min};
 ghost use lib.ListN.{length, take, drop};
 ghost use Rattle.std.specs.Results.{Cases};
 ghost use Rattle.flash.specs.Refused.{place-refusal, program-refusal};
-ghost use Rattle.flash.specs.Rules.{answered};
+ghost use Rattle.flash.specs.Meaning.{Sane};
+ghost use Rattle.flash.specs.Rules.{answered, Programmed, Erased, Armed, Restarted};
+ghost use denote.Ref.{now};
 ghost use Rattle.devices.specs.Memory.{part-of, outcome, Within};
 ghost use Rattle.devices.specs.Nor.{SIZE, mark-of, nor, leaves, holds-blocks, nor-program, nor-erase, nor-arm};
 
@@ -14,7 +16,9 @@ use crate::memory::spoil;
 use crate::memory::tear;
 use crate::memory::wipe;
 use crate::supply::Supply;
+use flash::interface::Flash;
 use flash::place::Place;
+use flash::place::Shape;
 use flash::refusal::Refusal;
 
 const BLOCK: usize = 4096;
@@ -135,5 +139,58 @@ impl Nor<'_> {
                 Err(Refusal::NoPower)
             }
         }
+    }
+}
+
+// Beyond the interface, `exact` says what it leaves open: how many steps are left after a call, and which page or block
+// fails with which bytes.
+pub impl Flash for Nor<'_> as NorFlash {
+    ghost meaning = { λ s. nor (now (s .memory)) (s .supply) };
+
+    ghost ok = { λ _. Unit {0} };
+
+    fn shape(&self) -> Shape {
+        Shape { blocks: self.blocks(), size: BLOCK, page: PAGE, batch: PAGE }
+    }
+
+    fn mark(&self, block: usize) -> Result<usize, Refusal> {
+        self.locate(Place { block, offset: 0 }, 0)?;
+        Ok(self.mark_of(block))
+    }
+
+    fn read(&self, at: Place, out: &mut [u8]) -> Result<(), Refusal> {
+        let n = out.len();
+        let from = self.locate(at, n)?;
+        out.copy_from_slice(&self.memory[from..from + n]);
+        Ok(())
+    }
+
+    fn program(&mut self, at: Place, bytes: &[u8]) -> Result<(), Refusal>
+        ensures met { λ r. ⌜ (Unit {0} → Unit {0} × Sane (nor (now (now (self .exit) .memory)) (now (self .exit) .supply)) × Programmed (nor (now (now (self .entry) .memory)) (now (self .entry) .supply)) (at .block) (at .offset) (now (bytes .entry)) r (nor (now (now (self .exit) .memory)) (now (self .exit) .supply))) ⌝ }
+        ensures exact { λ r. ⌜ outcome r (now (now (self .exit) .memory)) (now (self .exit) .supply) ≡ nor-program (now (now (self .entry) .memory)) (now (self .entry) .supply) (at .block) (at .offset) (now (bytes .entry)) ⌝ }
+    {
+        self.lay(at, bytes)
+    }
+
+    fn erase(&mut self, block: usize) -> Result<(), Refusal>
+        ensures met { λ r. ⌜ (Unit {0} → Unit {0} × Sane (nor (now (now (self .exit) .memory)) (now (self .exit) .supply)) × Erased (nor (now (now (self .entry) .memory)) (now (self .entry) .supply)) block r (nor (now (now (self .exit) .memory)) (now (self .exit) .supply))) ⌝ }
+        ensures exact { λ r. ⌜ outcome r (now (now (self .exit) .memory)) (now (self .exit) .supply) ≡ nor-erase (now (now (self .entry) .memory)) (now (self .entry) .supply) block ⌝ }
+    {
+        self.clear(block)
+    }
+
+    fn arm(&mut self, steps: usize, fault: u8) -> Result<(), Refusal>
+        ensures met { λ r. ⌜ (Unit {0} → Unit {0} × Sane (nor (now (now (self .exit) .memory)) (now (self .exit) .supply)) × Armed (nor (now (now (self .entry) .memory)) (now (self .entry) .supply)) r (nor (now (now (self .exit) .memory)) (now (self .exit) .supply))) ⌝ }
+        ensures exact { λ r. ⌜ outcome r (now (now (self .exit) .memory)) (now (self .exit) .supply) ≡ nor-arm (now (now (self .entry) .memory)) (now (self .entry) .supply) steps fault ⌝ }
+    {
+        self.supply = self.supply.arm(steps, fault)?;
+        Ok(())
+    }
+
+    fn restart(&mut self)
+        ensures met { λ _. ⌜ (Unit {0} → Unit {0} × Sane (nor (now (now (self .exit) .memory)) (now (self .exit) .supply)) × Restarted (nor (now (now (self .entry) .memory)) (now (self .entry) .supply)) (nor (now (now (self .exit) .memory)) (now (self .exit) .supply))) ⌝ }
+        ensures exact { λ _. ⌜ (now (now (self .exit) .memory) ≡ now (now (self .entry) .memory)) × (now (self .exit) .supply ≡ Supply.Steady) ⌝ }
+    {
+        self.supply = Supply::Steady;
     }
 }

@@ -1,6 +1,8 @@
 // The supply of power of a device, which can be made to fail at a step: a page programmed, or a block erased.
 ghost use mathlib.Core.Path.{_≡_};
-ghost use Rattle.devices.specs.Steps.{spent};
+ghost use Rattle.devices.specs.Steps.{spent, arming};
+
+use flash::refusal::Refusal;
 
 // Steady; armed, when so many steps still succeed and the next one fails with the fault; or off.
 #[derive(Clone, Copy)]
@@ -32,6 +34,16 @@ impl Supply {
             }
             Supply::Steady => Ok(Supply::Steady),
             Supply::Off => Ok(Supply::Off),
+        }
+    }
+
+    // The supply armed anew, which it cannot be without power.
+    pub(crate) fn arm(self, steps: usize, fault: u8) -> Result<Supply, Refusal>
+        ensures { λ r. ⌜ r ≡ arming self steps fault ⌝ }
+    {
+        match self {
+            Supply::Off => Err(Refusal::NoPower),
+            _ => Ok(Supply::Armed { left: steps, fault }),
         }
     }
 }
