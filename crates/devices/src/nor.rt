@@ -24,6 +24,14 @@ use flash::refusal::Refusal;
 const BLOCK: usize = 4096;
 const PAGE: usize = 4;
 
+// The end of the page in which the byte before `end` lies.
+fn page_end(end: usize) -> usize
+    requires { ⌜ end ≤ 4096 ⌝ }
+    ensures { λ r. ⌜ r ≡ (end + 3) / 4 * 4 ⌝ }
+{
+    (end + 3) / PAGE * PAGE
+}
+
 #[derive(Drop)]
 pub struct Nor<'a> {
     memory: &'a mut [u8],
@@ -83,7 +91,7 @@ impl Nor<'_> {
         ensures { λ r. ⌜ r ≡ mark-of (part-of SIZE (now (now (self .entry) .memory)) block) ⌝ }
     {
         let from = block * BLOCK;
-        (reach(&self.memory[from..from + BLOCK]) + 3) / PAGE * PAGE
+        page_end(reach(&self.memory[from..from + BLOCK]))
     }
 
     // Where in the memory a program of n bytes begins, or why it is refused.
@@ -140,6 +148,13 @@ impl Nor<'_> {
             }
         }
     }
+
+    // Makes the power steady.
+    pub(crate) fn power_up(&mut self)
+        ensures { λ _. ⌜ (now (now (self .exit) .memory) ≡ now (now (self .entry) .memory)) × (now (self .exit) .supply ≡ Supply.Steady) ⌝ }
+    {
+        self.supply = Supply::Steady;
+    }
 }
 
 // Beyond the interface, `exact` says what it leaves open: how many steps are left after a call, and which page or block
@@ -191,6 +206,6 @@ pub impl Flash for Nor<'_> as NorFlash {
         ensures met { λ _. ⌜ (Unit {0} → Unit {0} × Sane (nor (now (now (self .exit) .memory)) (now (self .exit) .supply)) × Restarted (nor (now (now (self .entry) .memory)) (now (self .entry) .supply)) (nor (now (now (self .exit) .memory)) (now (self .exit) .supply))) ⌝ }
         ensures exact { λ _. ⌜ (now (now (self .exit) .memory) ≡ now (now (self .entry) .memory)) × (now (self .exit) .supply ≡ Supply.Steady) ⌝ }
     {
-        self.supply = Supply::Steady;
+        self.power_up();
     }
 }

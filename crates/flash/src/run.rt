@@ -3,21 +3,36 @@ ghost use mathlib.Core.Path.{_≡_};
 ghost use mathlib.Core.Bool.{true};
 ghost use lib.Dec.{eqb};
 ghost use Rattle.flash.specs.Meaning.{Meaning, Sane};
-ghost use Rattle.flash.specs.Ran.{Ran, Did, Composes};
+ghost use Rattle.flash.specs.Ran.{Ran, Did, Composes, program, erase};
 ghost use Rattle.flash.specs.Settling.{Nothing-held};
 ghost use Rattle.flash.specs.Shown.{op-shown, ops-shown};
 
 use crate::interface::Flash;
 use crate::operation::Operation;
+use crate::place::Place;
 use crate::refusal::Refusal;
 
+// A program, as an operation.
+fn program_one<F: Flash>(flash: &mut F, at: Place, bytes: &[u8]) -> Result<(), Refusal>
+    ensures { λ r. ⌜ (F·Flash .ok (now (flash .entry)) → F·Flash .ok (now (flash .exit)) × Sane (F·Flash .meaning (now (flash .exit))) × Did (program (at .block) (at .offset) (now (bytes .entry))) (F·Flash .meaning (now (flash .entry))) r (F·Flash .meaning (now (flash .exit)))) ⌝ }
+{
+    flash.program(at, bytes)
+}
+
+// An erase, as an operation.
+fn erase_one<F: Flash>(flash: &mut F, block: usize) -> Result<(), Refusal>
+    ensures { λ r. ⌜ (F·Flash .ok (now (flash .entry)) → F·Flash .ok (now (flash .exit)) × Sane (F·Flash .meaning (now (flash .exit))) × Did (erase block) (F·Flash .meaning (now (flash .entry))) r (F·Flash .meaning (now (flash .exit)))) ⌝ }
+{
+    flash.erase(block)
+}
+
 // One operation.
-pub(crate) fn do_one<F: Flash>(flash: &mut F, operation: Operation<'_>) -> Result<(), Refusal>
+fn do_one<F: Flash>(flash: &mut F, operation: Operation<'_>) -> Result<(), Refusal>
     ensures { λ r. ⌜ (F·Flash .ok (now (flash .entry)) → F·Flash .ok (now (flash .exit)) × Did (op-shown (operation .entry)) (F·Flash .meaning (now (flash .entry))) r (F·Flash .meaning (now (flash .exit)))) ⌝ }
 {
     match operation {
-        Operation::Program { at, bytes } => flash.program(at, bytes),
-        Operation::Erase { block } => flash.erase(block),
+        Operation::Program { at, bytes } => program_one(flash, at, bytes),
+        Operation::Erase { block } => erase_one(flash, block),
     }
 }
 

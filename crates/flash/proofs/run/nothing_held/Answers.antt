@@ -1,10 +1,8 @@
 use mathlib.Core.Path.{_≡_, sym, _∙_}
-use Rattle.std.proofs.shelf.Tests.{eqb-true}
-use Rattle.flash.proofs.Settled.{nothing-held}
+use Rattle.flash.proofs.Settled.{same-shape, nothing-held-if}
 use Rattle.flash.proofs.run.nothing_held.Needs as need
 
 pub returns : need.returns
 returns g c = record
-  { value = λ ok. let s = c .shape .ensures .value ok in c .settles-at-once .ensures ∙ rw (s .2, s .3)
-  ; held = λ ok r. let s = c .shape .ensures .value ok in
-      nothing-held _ (c .shape .ensures .sane ok) (sym (s .2) ∙ (eqb-true _ _ (sym (c .settles-at-once .ensures) ∙ r) ∙ s .3)) }
+  { value = λ ok. same-shape (c .shape .result) (g .F·Flash .meaning (c .args .flash .now)) _ (c .shape .ensures .value ok) (c .settles-at-once .ensures)
+  ; held = λ ok. nothing-held-if (c .shape .result) (g .F·Flash .meaning (c .args .flash .now)) _ (c .shape .ensures .value ok) (c .settles-at-once .ensures) (c .shape .ensures .sane ok) }
