@@ -12,7 +12,7 @@ use Rattle.std.specs.declared.option.Option.the-variants.{Some, None}
 use Rattle.flash.specs.Cells.{over}
 use Rattle.nodes.specs.Items.{size}
 use Rattle.nodes.proofs.Standing.{at-all}
-use Rattle.encode.specs.Encode.{spread, zero-word, padding, head, head8, filling, rest-of-batch}
+use Rattle.encode.specs.Encode.{spread, zero-word, padding, head, filling, rest-of-batch}
 use Rattle.encode.specs.Laid.{All-well-formed, laid, run}
 use Rattle.encode.specs.Laws.{Fillers, Filled, Fills}
 use Rattle.encode.specs.Made.{Made, filling-goes}

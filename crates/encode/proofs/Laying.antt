@@ -1,19 +1,18 @@
 -- Items laid where a walk ends follow those that stood.
 use mathlib.Core.Path.{_≡_, refl, sym, ap, subst, _∙_}
-use mathlib.Core.Bool.{Bool, true, false, cond}
+use mathlib.Core.Bool.{Bool, true, false}
 use mathlib.Core.Logic.{_⊎_, inl, inr, ⊎-elim}
-use mathlib.Core.List.{List, [], _∷_, _++_, map, append-assoc, append-nil}
-use Prim.Native.Nat.{ℕ, zero, suc, _+_, _-_, _*_, _≤_, _<_}
+use mathlib.Core.List.{List, [], _∷_, _++_, append-assoc, append-nil}
+use Prim.Native.Nat.{ℕ, zero, suc, _+_, _-_, _≤_}
 use native.Mathlib.Omega.{arith}
-use lib.Dec.{eqb, leb}
-use lib.ListN.{length, getD, take, drop, replicate, length-take, length-drop, length-replicate}
+use lib.ListN.{length, take, drop, replicate, length-drop, length-replicate}
 use Rattle.std.proofs.shelf.Lists.{take-at, drop-at, drop-drop, drop-replicate, map-append, length-append, length-map, length-take-le, take-take, drop-take, take-map, drop-map}
-use Rattle.std.proofs.shelf.Tests.{eqb-true, leb-true}
+use Rattle.std.proofs.shelf.Tests.{eqb-true}
 use Rattle.std.specs.declared.option.Option.{Option}
 use Rattle.std.specs.declared.option.Option.the-variants.{Some, None}
-use Rattle.flash.specs.Cells.{Cell, byte, lost, cells, blank, over}
+use Rattle.flash.specs.Cells.{Cell, byte, cells, blank, over}
 use Rattle.nodes.specs.Fields.{le32}
-use Rattle.nodes.specs.Items.{Item, stands, size, is-word, reach, passes, header}
+use Rattle.nodes.specs.Items.{Item, stands, size, is-word, header}
 use Rattle.nodes.specs.Walk.{walk-in, walk-from, walk, met, marked, marker, end-of}
 use Rattle.encode.specs.Laid.{Well-formed, All-well-formed, laid, run, placed, Ends}
 use Rattle.encode.specs.Laws.{Appended, Opened, Appends, Opens}

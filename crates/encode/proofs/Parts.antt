@@ -1,12 +1,11 @@
 -- Bytes laid over others, part by part.
-use mathlib.Core.Path.{_≡_, refl, sym, ap, subst, _∙_}
+use mathlib.Core.Path.{_≡_, refl, sym, ap, _∙_}
 use mathlib.Core.List.{List, [], _∷_, _++_, append-assoc}
-use Prim.Native.Nat.{ℕ, zero, suc, _+_, _-_, _*_, _/_, _%_, _^_, _≤_, _<_}
+use Prim.Native.Nat.{ℕ, _+_, _-_, _*_, _/_, _%_, _≤_, _<_}
 use native.Mathlib.Nat.{add-zero, zero-add}
 use native.Mathlib.Omega.{arith}
-use lib.ListN.{length, getD, take, drop, replicate, length-replicate}
+use lib.ListN.{length, getD, take, drop}
 use borrow.Rule.Slice.PartMut.{putMid}
-use Rattle.std.specs.Joined.{joined}
 use Rattle.std.proofs.shelf.Lists.{take-at, drop-at, drop-drop, length-append, length-take-le, take-more, take-append-drop, take-all, joined-more}
 use Rattle.std.proofs.shelf.Bits.{shr-shr}
 use Rattle.crc32.specs.Sum.{sum}

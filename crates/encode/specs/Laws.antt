@@ -1,17 +1,19 @@
--- What holds of items that are made and laid. Assumes nothing.
+-- What holds of items that are made and laid. The contracts of the calls cite the law of the case at hand (Appended, Opened,
+-- Entry-trip, Content-trip, Filled); the laws of all cases are proved beside it, for those who reason about rows of cells and
+-- records. Assumes nothing.
 --
--- Appended         ys is xs with bytes laid over it at e: where these are a run of items, and the walk of xs ends at e, the walk
---                  of ys is that of xs and then just these items, and ends behind them
--- Opened           the same of a blank block, the marker and items
--- Appends, Opens   so it is with every run that fits
--- Entry-trip       an entry made from its fields passes, and is read as these fields
--- Content-trip     a content is
+-- Appended                     ys is xs with bytes laid over it at e: where these are a run of items, and the walk of xs ends at e,
+--                              the walk of ys is that of xs and then just these items, and it ends behind them
+-- Opened                       the same of a blank block, where the run begins with the marker
+-- Appends, Opens               so it is with every run that fits
+-- Entry-trip                   an entry made from its fields passes, and is read as these fields
+-- Content-trip                 a content does
 -- Entry-trips, Content-trips   so it is with all fields that fit their places
--- Fillers          zero words and padding pass, and take up what they should
--- Filled           what fills n bytes passes, and takes up n bytes
--- Fills            so it is with every number of whole words that a header can say
+-- Filled                       what fills n bytes passes, and takes up n bytes
+-- Fills                        so it is with every number of whole words that a header can say
+-- Fillers                      zero words and padding pass, and take up what they should
 use mathlib.Core.Path.{_≡_}
-use mathlib.Core.List.{List, [], _∷_, _++_}
+use mathlib.Core.List.{List, _∷_, _++_}
 use Prim.Native.Nat.{ℕ, _+_, _%_, _^_, _≤_, _<_}
 use lib.ListN.{length}
 use Rattle.flash.specs.Cells.{Cell, cells, blank, over}

@@ -1,6 +1,6 @@
 // Bytes and little-endian words written at a place, the header's words among them.
 ghost use mathlib.Core.Path.{_≡_};
-ghost use Prim.Native.Nat.{ℕ, _+_, _-_, _*_, _≤_};
+ghost use Prim.Native.Nat.{_+_, _-_, _*_, _≤_};
 ghost use lib.ListN.{length, replicate, take};
 ghost use Rattle.crc32.specs.Sum.{sum};
 ghost use Rattle.flash.specs.Cells.{over};

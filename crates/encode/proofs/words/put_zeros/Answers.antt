@@ -1,6 +1,5 @@
 use mathlib.Core.Path.{_∙_, ap}
 use Prim.Native.Nat.{_-_}
-use native.Mathlib.Omega.{arith}
 use lib.ListN.{replicate, length-replicate}
 use Rattle.std.proofs.shelf.Edits.{length-between}
 use Rattle.encode.proofs.Parts.{put-part}
