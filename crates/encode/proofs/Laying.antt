@@ -95,7 +95,7 @@ end-grows (suc f) xs p = go (end-grows f xs) (stands (drop p xs))
     go below (Some it) = let h = below (p + size it) in omega arith
 
 -- a part of two lists that are the same up to k
-same-part : {X : Type 0} (k : ℕ) (xs ys : List X) → take k xs ≡ take k ys → (p n : ℕ) → p + n ≤ k → take n (drop p xs) ≡ take n (drop p ys)
+pub same-part : {X : Type 0} (k : ℕ) (xs ys : List X) → take k xs ≡ take k ys → (p n : ℕ) → p + n ≤ k → take n (drop p xs) ≡ take n (drop p ys)
 same-part k xs ys t p n h =
     sym (drop-take p n xs) ∙ ap (drop p) (sym (take-take (p + n) k xs h) ∙ ap (take (p + n)) t ∙ take-take (p + n) k ys h) ∙ drop-take p n ys
 
