@@ -1,0 +1,9 @@
+pub mod Sums
+pub mod Headers
+pub mod Entries
+pub mod Contents
+pub mod Laying
+pub mod Parts
+pub mod Nodes
+pub mod Filling
+pub mod Buffers

@@ -1,0 +1,4 @@
+pub mod Encode
+pub mod Laid
+pub mod Made
+pub mod Laws
