@@ -43,15 +43,15 @@ module _ (size : ℕ) (mem ys : List ℕ) (b o : ℕ) (inside : o + length ys �
   unfolding new
   part-other i ne =
       ext-getD 0 _ _ (part-long size new mem i new-long)
-        (λ j h.
-          let l : j < size = part-in size new i j h in
-          at-part size new i j l ∙ (⊎-elim
-            (λ (lt : i < b). over-below mem (b * size + o) ys within (i * size + j) 0
-              (omega (arith, mul-le-mul-right size lt, add-mul i 1 size, one-mul size)))
-            (λ (gt : b < i). over-above mem (b * size + o) ys within (i * size + j) 0
-              (omega (arith, mul-le-mul-right size gt, add-mul b 1 size, one-mul size)))
-            (apart i b ne)
-          ∙ sym (at-part size mem i j l)))
+      (λ j h.
+      let l : j < size = part-in size new i j h in
+      at-part size new i j l ∙ (⊎-elim
+      (λ (lt : i < b). over-below mem (b * size + o) ys within (i * size + j) 0
+      (omega (arith, mul-le-mul-right size lt, add-mul i 1 size, one-mul size)))
+      (λ (gt : b < i). over-above mem (b * size + o) ys within (i * size + j) 0
+      (omega (arith, mul-le-mul-right size gt, add-mul b 1 size, one-mul size)))
+      (apart i b ne)
+      ∙ sym (at-part size mem i j l)))
 
   pub part-same : part-of size (over mem (b * size + o) ys) b ≡ over (part-of size mem b) o ys
   unfolding new
@@ -59,15 +59,15 @@ module _ (size : ℕ) (mem ys : List ℕ) (b o : ℕ) (inside : o + length ys �
       let full = part-full size mem b fits in
       let f : o + length ys ≤ length (part-of size mem b) = omega arith in
       ext-getD 0 _ _ (part-long size new mem b new-long ∙ sym (over-length (part-of size mem b) o ys f))
-        (λ j h.
-          let l : j < size = part-in size new b j h in
-          at-part size new b j l ∙ ⊎-elim
-            (λ (below : j < o). over-below mem (b * size + o) ys within (b * size + j) 0 (omega arith)
-              ∙ (sym (at-part size mem b j l) ∙ sym (over-below (part-of size mem b) o ys f j 0 below)))
-            (λ (above : o ≤ j). ⊎-elim
-              (λ (in-it : j < o + length ys). over-in mem (b * size + o) ys within (b * size + j) 0 (omega arith) (omega arith)
-                ∙ (ap (λ n. getD ys n 0) (omega arith) ∙ sym (over-in (part-of size mem b) o ys f j 0 above in-it)))
-              (λ (past : o + length ys ≤ j). over-above mem (b * size + o) ys within (b * size + j) 0 (omega arith)
-                ∙ (sym (at-part size mem b j l) ∙ sym (over-above (part-of size mem b) o ys f j 0 past)))
-              (cases-lt j (o + length ys)))
-            (cases-lt j o))
+      (λ j h.
+      let l : j < size = part-in size new b j h in
+      at-part size new b j l ∙ ⊎-elim
+      (λ (below : j < o). over-below mem (b * size + o) ys within (b * size + j) 0 (omega arith)
+      ∙ (sym (at-part size mem b j l) ∙ sym (over-below (part-of size mem b) o ys f j 0 below)))
+      (λ (above : o ≤ j). ⊎-elim
+      (λ (in-it : j < o + length ys). over-in mem (b * size + o) ys within (b * size + j) 0 (omega arith) (omega arith)
+      ∙ (ap (λ n. getD ys n 0) (omega arith) ∙ sym (over-in (part-of size mem b) o ys f j 0 above in-it)))
+      (λ (past : o + length ys ≤ j). over-above mem (b * size + o) ys within (b * size + j) 0 (omega arith)
+      ∙ (sym (at-part size mem b j l) ∙ sym (over-above (part-of size mem b) o ys f j 0 past)))
+      (cases-lt j (o + length ys)))
+      (cases-lt j o))

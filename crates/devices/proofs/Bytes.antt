@@ -20,12 +20,12 @@ pub spoil-all : (i j : ℕ) (xs : List ℕ) → length xs ≤ i → ored j (take
 spoil-all i j xs h = rw (take-all i xs h, drop-all i xs h) (append-nil _)
 
 pub spoil-more : (i j : ℕ) (xs ys : List ℕ) → i < length xs → length ys ≡ length xs → ys ≡ ored j (take i xs) ++ drop i xs
-  → set ys i (bitOr (getD ys i 0) j) ≡ ored j (take (i + 1) xs) ++ drop (i + 1) xs
+    → set ys i (bitOr (getD ys i 0) j) ≡ ored j (take (i + 1) xs) ++ drop (i + 1) xs
 spoil-more i j xs ys h l e = map-over-more (λ x. bitOr x j) xs ys i (getD ys i 0) h e (getD-default ys i 0 (getD ys i 0) (omega arith))
 
 -- bytes, the last k of them spoilt
 pub tear-is : (a k j : ℕ) (bs xs ys : List ℕ) → xs ≡ bs → k ≡ length xs - a → ys ≡ ored j (take k (drop a xs))
-  → putMid a k xs ys ≡ take a bs ++ ored j (drop a bs)
+    → putMid a k xs ys ≡ take a bs ++ ored j (drop a bs)
 tear-is a k j bs xs ys e l q =
     let h : length (drop a xs) ≤ k = omega (arith, length-drop a xs) in
     rw (q, take-all k (drop a xs) h, drop-all k (drop a xs) h, e) (ap (λ (r : List ℕ). take a bs ++ r) (append-nil _))

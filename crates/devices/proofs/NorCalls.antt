@@ -49,15 +49,15 @@ module _ (mem : List ℕ) (s : Supply) (b o : ℕ) (run : List ℕ) where
 
   module _ (from : ℕ) (none : program-refusal (nor mem s) b o (length run) ≡ None) (is : from ≡ b * 4096 + o) where
     pub lay-done : (s′ : Supply) (ys : List ℕ) → Ok s′ ≡ spent s (length run / 4) → ys ≡ run
-      → outcome (Ok tt) (putMid from (from + length run - from) mem ys) s′ ≡ nor-program mem s b o run
+        → outcome (Ok tt) (putMid from (from + length run - from) mem ys) s′ ≡ nor-program mem s b o run
     unfolding nor-program SIZE
     lay-done s′ ys h e =
         let k : length ys ≡ from + length run - from = ap length e ∙ omega arith in
         rw (none, ← h) (ap (λ (m : List ℕ). outcome (Ok tt) m s′) (put-over from (from + length run - from) mem ys k ∙ rw (e, is)))
 
     pub lay-cut : (c : Cut) (ys bs : List ℕ) (end : ℕ) → Err c ≡ spent s (length run / 4) → end ≡ (c .after + 1) * 4
-      → bs ≡ take end run → ys ≡ take (length bs - 4) bs ++ ored (c .fault) (drop (length bs - 4) bs)
-      → outcome (Err NoPower) (putMid from (from + end - from) mem ys) Off ≡ nor-program mem s b o run
+        → bs ≡ take end run → ys ≡ take (length bs - 4) bs ++ ored (c .fault) (drop (length bs - 4) bs)
+        → outcome (Err NoPower) (putMid from (from + end - from) mem ys) Off ≡ nor-program mem s b o run
     unfolding nor-program SIZE cut-run
     lay-cut c ys bs end h ee eb ey =
         let le : end ≤ length run = omega (arith, cut-before s (length run / 4) c h) in
@@ -66,12 +66,12 @@ module _ (mem : List ℕ) (s : Supply) (b o : ℕ) (run : List ℕ) where
         let e4 : c .after * 4 + 4 ≡ end = omega arith in
         let front : take (c .after * 4) bs ≡ take (c .after * 4) run = ap (take (c .after * 4)) eb ∙ take-take (c .after * 4) end run (omega arith) in
         let back : drop (c .after * 4) bs ≡ take 4 (drop (c .after * 4) run) =
-              ap (drop (c .after * 4)) (eb ∙ ap (λ n. take n run) (sym e4)) ∙ drop-take (c .after * 4) 4 run in
+        ap (drop (c .after * 4)) (eb ∙ ap (λ n. take n run) (sym e4)) ∙ drop-take (c .after * 4) 4 run in
         let is-cut : ys ≡ cut-run c run =
-              ey ∙ (ap (λ n. take n bs ++ ored (c .fault) (drop n bs)) w ∙ (ap (λ (l : List ℕ). l ++ ored (c .fault) (drop (c .after * 4) bs)) front
-              ∙ ap (λ (l : List ℕ). take (c .after * 4) run ++ ored (c .fault) l) back)) in
+        ey ∙ (ap (λ n. take n bs ++ ored (c .fault) (drop n bs)) w ∙ (ap (λ (l : List ℕ). l ++ ored (c .fault) (drop (c .after * 4) bs)) front
+        ∙ ap (λ (l : List ℕ). take (c .after * 4) run ++ ored (c .fault) l) back)) in
         let long : length ys ≡ from + end - from =
-              ap length ey ∙ simp (length-append, length-take, length-map, length-drop) (omega arith) in
+        ap length ey ∙ simp (length-append, length-take, length-map, length-drop) (omega arith) in
         rw (none, ← h) (ap (λ (m : List ℕ). outcome (Err NoPower) m Off) (put-over from (from + end - from) mem ys long ∙ rw (is-cut, is)))
 
 -- ─── erase ───
@@ -92,7 +92,7 @@ module _ (mem : List ℕ) (s : Supply) (b : ℕ) where
     from-is = omega arith
 
     pub clear-done : (s′ : Supply) (ys : List ℕ) → Ok s′ ≡ spent s 1 → ys ≡ replicate (length (take (from + 4096 - from) (drop from mem))) 255
-      → outcome (Ok tt) (putMid from (from + 4096 - from) mem ys) s′ ≡ nor-erase mem s b
+        → outcome (Ok tt) (putMid from (from + 4096 - from) mem ys) s′ ≡ nor-erase mem s b
     unfolding nor-erase SIZE
     clear-done s′ ys h e =
         let blank : ys ≡ replicate 4096 255 = e ∙ ap (λ n. replicate n 255) (ap (λ n. length (take n (drop from mem))) size-is ∙ part-long) in
@@ -100,7 +100,7 @@ module _ (mem : List ℕ) (s : Supply) (b : ℕ) where
         rw (none, ← h) (ap (λ (m : List ℕ). outcome (Ok tt) m s′) (put-over from (from + 4096 - from) mem ys long ∙ rw (blank, from-is)))
 
     pub clear-cut : (c : Cut) (ys : List ℕ) → Err c ≡ spent s 1 → ys ≡ ored (c .fault) (take (from + 4096 - from) (drop from mem))
-      → outcome (Err NoPower) (putMid from (from + 4096 - from) mem ys) Off ≡ nor-erase mem s b
+        → outcome (Err NoPower) (putMid from (from + 4096 - from) mem ys) Off ≡ nor-erase mem s b
     unfolding nor-erase SIZE
     clear-cut c ys h e =
         let spoilt : ys ≡ ored (c .fault) (take 4096 (drop from mem)) = e ∙ ap (λ n. ored (c .fault) (take n (drop from mem))) size-is in

@@ -43,12 +43,12 @@ module _ (mem : List ℕ) (s : Supply) (b o : ℕ) (old : List ℕ) where
   fetch-refused e h = rules.Fetched.refused e (read-by-place (nor mem s) b o (length old) e h) refl refl
 
   pub fetch-done : (from : ℕ) (new : List ℕ) → place-refusal (nor mem s) b o (length old) ≡ None → from ≡ b * 4096 + o
-    → new ≡ take (from + length old - from) (drop from mem) → Fetched (nor mem s) b o old (Ok tt) new
+      → new ≡ take (from + length old - from) (drop from mem) → Fetched (nor mem s) b o old (Ok tt) new
   unfolding nor SIZE
   fetch-done from new none is e =
       let i = place-inside (nor mem s) b o (length old) none in
       let q = part-cells (part-of SIZE mem b) o (length old) in
       let n : from + length old - from ≡ length old = omega arith in
       rules.Fetched.done
-        (read-past-place (nor mem s) b o (length old) none ∙ rw (q, readable-cells (take (length old) (drop o (part-of SIZE mem b))))) refl
-        (ap cells (e ∙ (ap (λ k. take k (drop from mem)) n ∙ (ap (λ k. take (length old) (drop k mem)) is ∙ in-block SIZE mem b o (length old) (i .fits)))) ∙ sym q)
+      (read-past-place (nor mem s) b o (length old) none ∙ rw (q, readable-cells (take (length old) (drop o (part-of SIZE mem b))))) refl
+      (ap cells (e ∙ (ap (λ k. take k (drop from mem)) n ∙ (ap (λ k. take (length old) (drop k mem)) is ∙ in-block SIZE mem b o (length old) (i .fits)))) ∙ sym q)

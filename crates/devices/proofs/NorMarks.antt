@@ -84,4 +84,4 @@ module _ (xs run : List ℕ) (o : ℕ) (fits : o + length run ≤ length xs) (lo
   pub mark-within-run : o % 4 ≡ 0 → length run % 4 ≡ 0 → mark-of (over xs o run) ≤ o + length run
   mark-within-run p q =
       mark-high (over xs o run) (o + length run) (omega arith)
-        (rw run-used (⊎-elim (λ h. rw (h .0) (omega arith)) (λ h. rw (h .0) (omega (arith, used-le run))) (eqb-tells (used run) 0)))
+      (rw run-used (⊎-elim (λ h. rw (h .0) (omega arith)) (λ h. rw (h .0) (omega (arith, used-le run))) (eqb-tells (used run) 0)))

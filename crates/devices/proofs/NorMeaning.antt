@@ -35,13 +35,23 @@ getD-cells (x ∷ xs) (suc i) h = getD-cells xs i (omega arith)
 
 pub nor-sane : (mem : List ℕ) (s : Supply) → Sane (nor mem s)
 unfolding nor
-nor-sane mem s = record
-  { some-page = omega arith; some-batch = omega arith; batch-pages = refl
-  ; size-batches = SIZE-pages; size-fits = SIZE-small; blocks-fit = omega arith
-  ; shown-length = long; settled-length = long
-  ; mark-within = λ b h. mark-high (part-of SIZE mem b) SIZE SIZE-pages (omega (arith, used-le (part-of SIZE mem b), full b h))
-  ; shown-blank = blank-behind; settled-blank = blank-behind
-  ; held-block = 0; held-end = 0; held-pages = refl; agree = λ b i there h ne. refl }
+nor-sane mem s = record {
+  some-page = omega arith;
+  some-batch = omega arith;
+  batch-pages = refl;
+  size-batches = SIZE-pages;
+  size-fits = SIZE-small;
+  blocks-fit = omega arith;
+  shown-length = long;
+  settled-length = long;
+  mark-within = λ b h. mark-high (part-of SIZE mem b) SIZE SIZE-pages (omega (arith, used-le (part-of SIZE mem b), full b h));
+  shown-blank = blank-behind;
+  settled-blank = blank-behind;
+  held-block = 0;
+  held-end = 0;
+  held-pages = refl;
+  agree = λ b i there h ne. refl;
+}
   where
     full : (b : ℕ) → b < min (length mem / SIZE) 16 → length (part-of SIZE mem b) ≡ SIZE
     full b h = part-full SIZE mem b (fits-of (length mem) b h)
@@ -56,9 +66,16 @@ nor-sane mem s = record
 
 -- m, with xs in the block b, k for its mark, and p for the power
 unfoldable pub changed : Meaning → ℕ → List Cell → ℕ → Power → Meaning
-changed m b xs k p = record
-  { blocks = m .blocks; size = m .size; page = m .page; batch = m .batch
-  ; shown = with-at (m .shown) b xs; settled = with-at (m .settled) b xs; mark = with-at (m .mark) b k; power = p }
+changed m b xs k p = record {
+  blocks = m .blocks;
+  size = m .size;
+  page = m .page;
+  batch = m .batch;
+  shown = with-at (m .shown) b xs;
+  settled = with-at (m .settled) b xs;
+  mark = with-at (m .mark) b k;
+  power = p;
+}
 
 -- the meaning once the bytes ys were laid at the offset o of the block b
 module _ (mem ys : List ℕ) (b o : ℕ) (inside : o + length ys ≤ SIZE) (fits : b * SIZE + SIZE ≤ length mem) where
@@ -71,13 +88,20 @@ module _ (mem ys : List ℕ) (b o : ℕ) (inside : o + length ys ≤ SIZE) (fits
       let mem′ = over mem (b * SIZE + o) ys in
       let e : length mem′ ≡ length mem = over-length mem (b * SIZE + o) ys (omega arith) in
       let bytes : (i : ℕ) → cells (part-of SIZE mem′ i) ≡ with-at (λ j. cells (part-of SIZE mem j)) b (cells after) i = λ i.
-            by-place (λ v. cells (part-of SIZE mem′ i) ≡ cond v (cells after) (cells (part-of SIZE mem i))) i b
-              (λ q. rw q (ap cells (part-same SIZE mem ys b o inside fits)))
-              (λ q. ap cells (part-other SIZE mem ys b o inside fits i q)) in
+      by-place (λ v. cells (part-of SIZE mem′ i) ≡ cond v (cells after) (cells (part-of SIZE mem i))) i b
+      (λ q. rw q (ap cells (part-same SIZE mem ys b o inside fits)))
+      (λ q. ap cells (part-other SIZE mem ys b o inside fits i q)) in
       let marks : (i : ℕ) → mark-of (part-of SIZE mem′ i) ≡ with-at (λ j. mark-of (part-of SIZE mem j)) b (mark-of after) i = λ i.
-            by-place (λ v. mark-of (part-of SIZE mem′ i) ≡ cond v (mark-of after) (mark-of (part-of SIZE mem i))) i b
-              (λ q. rw q (ap mark-of (part-same SIZE mem ys b o inside fits)))
-              (λ q. ap mark-of (part-other SIZE mem ys b o inside fits i q)) in
-      λ t. record
-        { blocks = min (e t / SIZE) 16; size = SIZE; page = 4; batch = 4
-        ; shown = λ i. bytes i t; settled = λ i. bytes i t; mark = λ i. marks i t; power = power-of s′ }
+      by-place (λ v. mark-of (part-of SIZE mem′ i) ≡ cond v (mark-of after) (mark-of (part-of SIZE mem i))) i b
+      (λ q. rw q (ap mark-of (part-same SIZE mem ys b o inside fits)))
+      (λ q. ap mark-of (part-other SIZE mem ys b o inside fits i q)) in
+      λ t. record {
+        blocks = min (e t / SIZE) 16;
+        size = SIZE;
+        page = 4;
+        batch = 4;
+        shown = λ i. bytes i t;
+        settled = λ i. bytes i t;
+        mark = λ i. marks i t;
+        power = power-of s′;
+      }

@@ -83,16 +83,16 @@ settled-is xs ys o e p h =
 
 -- the first w bytes of a run, and then sp in place of those behind them
 cut-split : (xs run sp : List ℕ) (o w : ℕ) → o ≤ length xs → w ≤ length run
-  → over xs o (take w run ++ sp) ≡ take (o + w) (over xs o run) ++ (sp ++ drop (o + w + length sp) xs)
+    → over xs o (take w run ++ sp) ≡ take (o + w) (over xs o run) ++ (sp ++ drop (o + w + length sp) xs)
 cut-split xs run sp o w h l =
     let P = take o xs in
     let W = take w run in
     let lPW : length (P ++ W) ≡ o + w = simp (length-append, length-take) (omega arith) in
     let n : o + length (W ++ sp) ≡ o + w + length sp = simp (length-append, length-take) (omega arith) in
     let right : take (o + w) (over xs o run) ≡ P ++ W =
-          ap (λ (r : List ℕ). take (o + w) (P ++ (r ++ drop (o + length run) xs))) (sym (take-append-drop w run))
-          ∙ (ap (λ (r : List ℕ). take (o + w) (P ++ r)) (append-assoc W (drop w run) (drop (o + length run) xs))
-          ∙ (ap (take (o + w)) (sym (append-assoc P W (drop w run ++ drop (o + length run) xs))) ∙ take-at (P ++ W) _ (o + w) lPW)) in
+    ap (λ (r : List ℕ). take (o + w) (P ++ (r ++ drop (o + length run) xs))) (sym (take-append-drop w run))
+    ∙ (ap (λ (r : List ℕ). take (o + w) (P ++ r)) (append-assoc W (drop w run) (drop (o + length run) xs))
+    ∙ (ap (take (o + w)) (sym (append-assoc P W (drop w run ++ drop (o + length run) xs))) ∙ take-at (P ++ W) _ (o + w) lPW)) in
     ap (λ m. P ++ ((W ++ sp) ++ drop m xs)) n
     ∙ (ap (λ (r : List ℕ). P ++ r) (append-assoc W sp (drop (o + w + length sp) xs))
     ∙ (sym (append-assoc P W (sp ++ drop (o + w + length sp) xs)) ∙ ap (λ (r : List ℕ). r ++ (sp ++ drop (o + w + length sp) xs)) (sym right)))
@@ -132,15 +132,22 @@ module _ (mem : List ℕ) (s : Supply) (b o : ℕ) (run : List ℕ) (none : prog
       let el : e ≤ length (cells B) = omega (arith, f .page-o, f .page-n, length-map B byte, here) in
       let c2 : cells (over B o run) ≡ take e (over (cells B) o (cells run)) ++ drop e (cells B) = c1 ∙ sym (settled-is (cells B) (cells run) o e ee el) in
       let p = spent-power s s′ (length run / 4) h in
-      record
-        { mark = mark-of (over B o run)
-        ; from = mark-rises B run o here low
-        ; to = mark-within-run B run o here low (f .page-o) (f .page-n)
-        ; is = nor-over mem run b o (f .inside) (f .fits) s s′
-            ∙ (λ t. record
-              { blocks = nor mem s .blocks; size = SIZE; page = 4; batch = 4
-              ; shown = with-at (nor mem s .shown) b (c1 t); settled = with-at (nor mem s .settled) b (c2 t)
-              ; mark = with-at (nor mem s .mark) b (mark-of (over B o run)); power = p t }) }
+      record {
+        mark = mark-of (over B o run);
+        from = mark-rises B run o here low;
+        to = mark-within-run B run o here low (f .page-o) (f .page-n);
+        is = nor-over mem run b o (f .inside) (f .fits) s s′
+            ∙ (λ t. record {
+              blocks = nor mem s .blocks;
+              size = SIZE;
+              page = 4;
+              batch = 4;
+              shown = with-at (nor mem s .shown) b (c1 t);
+              settled = with-at (nor mem s .settled) b (c2 t);
+              mark = with-at (nor mem s .mark) b (mark-of (over B o run));
+              power = p t;
+            });
+      }
 
   program-failed : (c : Cut) → Err c ≡ spent s (length run / 4) → Failed (nor mem s) b o run (nor (over mem (b * SIZE + o) (cut-run c run)) Off)
   unfolding nor changed broken cut-run B
@@ -154,35 +161,37 @@ module _ (mem : List ℕ) (s : Supply) (b o : ℕ) (run : List ℕ) (none : prog
       let lc : length (cut-run c run) ≡ w + 4 = omega (arith, length-append (take w run) sp, length-take w run, l4) in
       let at4 : ((o + w) / 4) * 4 ≡ o + w = omega (arith, f .page-o) in
       let split : over B o (cut-run c run) ≡ take (o + w) (over B o run) ++ (sp ++ drop (o + w + 4) B) =
-            cut-split B run sp o w (omega (arith, full, f .inside)) (omega arith) ∙ ap (λ n. take (o + w) (over B o run) ++ (sp ++ drop (o + w + n) B)) l4 in
+      cut-split B run sp o w (omega (arith, full, f .inside)) (omega arith) ∙ ap (λ n. take (o + w) (over B o run) ++ (sp ++ drop (o + w + n) B)) l4 in
       let is : cells (over B o (cut-run c run)) ≡ take (o + w) (over (cells B) o (cells run)) ++ (cells sp ++ drop (o + w + 4) (cells B)) =
-            ap cells split ∙ (map-append byte (take (o + w) (over B o run)) _ ∙ (ap (λ (r : List Cell). cells (take (o + w) (over B o run)) ++ r) (map-append byte sp _)
-            ∙ rw (map-take (o + w) (over B o run), cells-over B run o, map-drop (o + w + 4) B))) in
-      record
-        { armed-before = cut-armed s (length run / 4) c h
-        ; left = cells (over B o (cut-run c run))
-        ; torn = record
-            { at = (o + w) / 4
-            ; concerned = rules.Concerned.takes (omega arith) (omega arith) (omega arith)
-            ; spoilt = cells sp
-            ; is-spoilt = rules.Spoilt.bytes sp l4 refl
-            ; is = rw at4 is }
-        ; marks = with-at (λ i. mark-of (part-of SIZE mem i)) b (mark-of (over B o (cut-run c run)))
-        ; is = nor-over mem (cut-run c run) b o (omega (arith, f .inside)) (f .fits) s Off }
+      ap cells split ∙ (map-append byte (take (o + w) (over B o run)) _ ∙ (ap (λ (r : List Cell). cells (take (o + w) (over B o run)) ++ r) (map-append byte sp _)
+      ∙ rw (map-take (o + w) (over B o run), cells-over B run o, map-drop (o + w + 4) B))) in
+      record {
+        armed-before = cut-armed s (length run / 4) c h;
+        left = cells (over B o (cut-run c run));
+        torn = record {
+          at = (o + w) / 4;
+          concerned = rules.Concerned.takes (omega arith) (omega arith) (omega arith);
+          spoilt = cells sp;
+          is-spoilt = rules.Spoilt.bytes sp l4 refl;
+          is = rw at4 is;
+        };
+        marks = with-at (λ i. mark-of (part-of SIZE mem i)) b (mark-of (over B o (cut-run c run)));
+        is = nor-over mem (cut-run c run) b o (omega (arith, f .inside)) (f .fits) s Off;
+      }
 
   pub goes : (x : Result Supply Cut) → x ≡ spent s (length run / 4)
-    → rules.Goes (nor mem s) b o run (laid mem (b * SIZE + o) run x .answer) (nor (laid mem (b * SIZE + o) run x .mem) (laid mem (b * SIZE + o) run x .supply))
+      → rules.Goes (nor mem s) b o run (laid mem (b * SIZE + o) run x .answer) (nor (laid mem (b * SIZE + o) run x .mem) (laid mem (b * SIZE + o) run x .supply))
   goes (Ok s′) h = rules.Goes.done refl (program-done s′ h)
   goes (Err c) h = rules.Goes.failed refl (program-failed c h)
 
 pub program-meets : (mem : List ℕ) (s : Supply) (b o : ℕ) (run : List ℕ) (out : Outcome) → out ≡ nor-program mem s b o run
-  → Programmed (nor mem s) b o run (out .answer) (nor (out .mem) (out .supply))
+    → Programmed (nor mem s) b o run (out .answer) (nor (out .mem) (out .supply))
 unfolding nor-program
 program-meets mem s b o run out is = go (program-refusal (nor mem s) b o (length run)) refl is
   where
     go : (x : Option Refusal) → program-refusal (nor mem s) b o (length run) ≡ x
-      → out ≡ unless x mem s (laid mem (b * SIZE + o) run (spent s (length run / 4)))
-      → Programmed (nor mem s) b o run (out .answer) (nor (out .mem) (out .supply))
+        → out ≡ unless x mem s (laid mem (b * SIZE + o) run (spent s (length run / 4)))
+        → Programmed (nor mem s) b o run (out .answer) (nor (out .mem) (out .supply))
     go None h is = rw is (rules.Programmed.goes h (goes mem s b o run h (spent s (length run / 4)) refl))
     go (Some e) h is = rw is (rules.Programmed.refused e h refl refl)
 
@@ -223,28 +232,28 @@ module _ (mem : List ℕ) (s : Supply) (b : ℕ) (none : erase-refusal (nor mem 
       let ds : length (cells (part-of SIZE mem b)) ≡ SIZE = length-map (part-of SIZE mem b) byte ∙ full in
       let w = whole ys l in
       rules.Erased.failed (cells ys) (with-at (λ i. mark-of (part-of SIZE mem i)) b (mark-of ys)) none (cut-armed s 1 c h) refl cs
-        (λ i. rules.Worn.spoilt (worn i ys (cells (part-of SIZE mem b)) (cs ∙ sym ds)))
-        (ap (λ (m : List ℕ). nor m Off) (at-start ys)
-        ∙ (nor-over mem ys b 0 (omega arith) fits s Off ∙ (λ t. changed (nor mem s) b (ap cells w t) (mark-of (w t)) off)))
+      (λ i. rules.Worn.spoilt (worn i ys (cells (part-of SIZE mem b)) (cs ∙ sym ds)))
+      (ap (λ (m : List ℕ). nor m Off) (at-start ys)
+      ∙ (nor-over mem ys b 0 (omega arith) fits s Off ∙ (λ t. changed (nor mem s) b (ap cells w t) (mark-of (w t)) off)))
     where
       worn : (i : ℕ) (ys : List ℕ) (old : List Cell) → length (cells ys) ≡ length old → rules.Spoilt (length (take 4 (drop (i * 4) old))) (take 4 (drop (i * 4) (cells ys)))
       worn i ys old e =
           rules.Spoilt.bytes (take 4 (drop (i * 4) ys))
-            (simp (length-take, length-drop) (omega (arith, e, length-map ys byte)))
-            (ap (take 4) (sym (map-drop (i * 4) ys)) ∙ sym (map-take 4 (drop (i * 4) ys)))
+          (simp (length-take, length-drop) (omega (arith, e, length-map ys byte)))
+          (ap (take 4) (sym (map-drop (i * 4) ys)) ∙ sym (map-take 4 (drop (i * 4) ys)))
 
   pub clears : (x : Result Supply Cut) → x ≡ spent s 1
-    → Erased (nor mem s) b (wiped mem (b * SIZE) x .answer) (nor (wiped mem (b * SIZE) x .mem) (wiped mem (b * SIZE) x .supply))
+      → Erased (nor mem s) b (wiped mem (b * SIZE) x .answer) (nor (wiped mem (b * SIZE) x .mem) (wiped mem (b * SIZE) x .supply))
   clears (Ok s′) h = rules.Erased.done none refl (erase-done s′ h)
   clears (Err c) h = erase-failed c h
 
 pub erase-meets : (mem : List ℕ) (s : Supply) (b : ℕ) (out : Outcome) → out ≡ nor-erase mem s b
-  → Erased (nor mem s) b (out .answer) (nor (out .mem) (out .supply))
+    → Erased (nor mem s) b (out .answer) (nor (out .mem) (out .supply))
 unfolding nor-erase
 erase-meets mem s b out is = go (erase-refusal (nor mem s) b) refl is
   where
     go : (x : Option Refusal) → erase-refusal (nor mem s) b ≡ x → out ≡ unless x mem s (wiped mem (b * SIZE) (spent s 1))
-      → Erased (nor mem s) b (out .answer) (nor (out .mem) (out .supply))
+        → Erased (nor mem s) b (out .answer) (nor (out .mem) (out .supply))
     go None h is = rw is (clears mem s b h (spent s 1) refl)
     go (Some e) h is = rw is (rules.Erased.refused e h refl refl)
 

@@ -33,12 +33,16 @@ unfoldable pub mark-of : List ℕ → ℕ
 mark-of xs = (used xs + 3) / 4 * 4
 
 unfoldable pub nor : List ℕ → Supply → Meaning
-nor mem s = record
-  { blocks = min (length mem / SIZE) 16; size = SIZE; page = 4; batch = 4
-  ; shown = λ b. cells (part-of SIZE mem b)
-  ; settled = λ b. cells (part-of SIZE mem b)
-  ; mark = λ b. mark-of (part-of SIZE mem b)
-  ; power = power-of s }
+nor mem s = record {
+  blocks = min (length mem / SIZE) 16;
+  size = SIZE;
+  page = 4;
+  batch = 4;
+  shown = λ b. cells (part-of SIZE mem b);
+  settled = λ b. cells (part-of SIZE mem b);
+  mark = λ b. mark-of (part-of SIZE mem b);
+  power = power-of s;
+}
 
 -- whether n bytes at the offset o of the block b leave the block, or a chip of len bytes
 abbrev pub leaves : ℕ → ℕ → ℕ → ℕ → Bool

@@ -10,7 +10,6 @@ ghost use Rattle.flash.specs.Rules.{answered, Programmed, Erased, Armed, Restar
 ghost use denote.Ref.{now};
 ghost use Rattle.devices.specs.Memory.{part-of, outcome, Within};
 ghost use Rattle.devices.specs.Nor.{SIZE, mark-of, nor, leaves, holds-blocks, nor-program, nor-erase, nor-arm};
-
 use crate::memory::reach;
 use crate::memory::spoil;
 use crate::memory::tear;
@@ -22,6 +21,7 @@ use flash::place::Shape;
 use flash::refusal::Refusal;
 
 const BLOCK: usize = 4096;
+
 const PAGE: usize = 4;
 
 // The end of the page in which the byte before `end` lies.
@@ -47,7 +47,10 @@ impl<'a> Nor<'a> {
         if n % BLOCK != 0 || n < 4 * BLOCK || n > 16 * BLOCK {
             return Err((Refusal::Memory, memory));
         }
-        Ok(Nor { memory, supply: Supply::Steady })
+        Ok(Nor {
+            memory,
+            supply: Supply::Steady,
+        })
     }
 }
 
@@ -123,7 +126,12 @@ impl Nor<'_> {
             }
             Err(cut) => {
                 let end = (cut.after + 1) * PAGE;
-                tear(&mut self.memory[from..from + end], &bytes[0..end], PAGE, cut.fault);
+                tear(
+                    &mut self.memory[from..from + end],
+                    &bytes[0..end],
+                    PAGE,
+                    cut.fault,
+                );
                 self.supply = Supply::Off;
                 Err(Refusal::NoPower)
             }
@@ -165,7 +173,12 @@ pub impl Flash for Nor<'_> as NorFlash {
     ghost ok = { λ _. Unit {0} };
 
     fn shape(&self) -> Shape {
-        Shape { blocks: self.blocks(), size: BLOCK, page: PAGE, batch: PAGE }
+        Shape {
+            blocks: self.blocks(),
+            size: BLOCK,
+            page: PAGE,
+            batch: PAGE,
+        }
     }
 
     fn mark(&self, block: usize) -> Result<usize, Refusal> {

@@ -1,7 +1,6 @@
 // The supply of power of a device, which can be made to fail at a step: a page programmed, or a block erased.
 ghost use mathlib.Core.Path.{_≡_};
 ghost use Rattle.devices.specs.Steps.{spent, arming};
-
 use flash::refusal::Refusal;
 
 // Steady; armed, when so many steps still succeed and the next one fails with the fault; or off.
@@ -29,7 +28,10 @@ impl Supply {
                 if left < steps {
                     Err(Cut { after: left, fault })
                 } else {
-                    Ok(Supply::Armed { left: left - steps, fault })
+                    Ok(Supply::Armed {
+                        left: left - steps,
+                        fault,
+                    })
                 }
             }
             Supply::Steady => Ok(Supply::Steady),

@@ -43,14 +43,14 @@ module _ {X : Type 0} (xs : List X) (o : ℕ) (ys : List X) (fits : o + length y
   pub over-back : (k : ℕ) → o + length ys ≤ k → drop k (over xs o ys) ≡ drop k xs
   over-back k h =
       same-lists _ _ (simp (length-append, length-take, length-drop) (omega arith))
-        (λ i d l. getD-drop k (over xs o ys) i d ∙ (over-above (k + i) d (omega arith) ∙ sym (getD-drop k xs i d)))
+      (λ i d l. getD-drop k (over xs o ys) i d ∙ (over-above (k + i) d (omega arith) ∙ sym (getD-drop k xs i d)))
 
 -- a row laid over in its middle by one part and then by the next
 pub over-twice : {X : Type 0} (xs : List X) (o : ℕ) (ys zs : List X) → o + length ys + length zs ≤ length xs
-  → over (over xs o ys) (o + length ys) zs ≡ over xs o (ys ++ zs)
+    → over (over xs o ys) (o + length ys) zs ≡ over xs o (ys ++ zs)
 over-twice xs o ys zs h =
     let f : o + length ys ≤ length xs = omega arith in
     let t : take (o + length ys) (over xs o ys) ≡ take o xs ++ ys =
-          rw (← append-assoc (take o xs) ys (drop (o + length ys) xs)) (take-at (take o xs ++ ys) _ _ (simp (length-append, length-take) (omega arith))) in
+    rw (← append-assoc (take o xs) ys (drop (o + length ys) xs)) (take-at (take o xs ++ ys) _ _ (simp (length-append, length-take) (omega arith))) in
     let e : o + length (ys ++ zs) ≡ o + length ys + length zs = simp length-append (omega arith) in
     rw (t, over-back xs o ys f (o + length ys + length zs) (omega arith), e) (simp append-assoc)

@@ -65,9 +65,9 @@ first-none (x ∷ xs) ys h = go (x .0) h (first-none xs ys)
 pub inside : (m : Meaning) (b o n : ℕ) → outside m b o n ≡ false → (b < m .blocks) × (o + n ≤ m .size)
 inside m b o n =
     ⊎-elim
-      (λ (l : b < m .blocks). rw (lt-ltb b (m .blocks) l) (λ h. (l, ltb-false (m .size) (o + n) h)))
-      (λ (l : m .blocks ≤ b). rw (le-ltb b (m .blocks) l) (λ h. absurd (true≢false h)))
-      (cases-lt b (m .blocks))
+    (λ (l : b < m .blocks). rw (lt-ltb b (m .blocks) l) (λ h. (l, ltb-false (m .size) (o + n) h)))
+    (λ (l : m .blocks ≤ b). rw (le-ltb b (m .blocks) l) (λ h. absurd (true≢false h)))
+    (cases-lt b (m .blocks))
 
 pub record Inside (m : Meaning) (b o n : ℕ) : Type 0 where
   pub on : is-off (m .power) ≡ false
@@ -94,7 +94,7 @@ module _ (m : Meaning) (b o n : ℕ) where
   program-by-place e h = first-some (place-causes m b o n) of-program e h
 
   pub program-past-place : place-refusal m b o n ≡ None
-    → program-refusal m b o n ≡ first of-program
+      → program-refusal m b o n ≡ first of-program
   unfolding place-refusal program-refusal
   program-past-place h = first-none (place-causes m b o n) of-program h
 
@@ -103,7 +103,7 @@ module _ (m : Meaning) (b o n : ℕ) where
   read-by-place e h = first-some (place-causes m b o n) of-read e h
 
   pub read-past-place : place-refusal m b o n ≡ None
-    → read-refusal m b o n ≡ first of-read
+      → read-refusal m b o n ≡ first of-read
   unfolding place-refusal read-refusal
   read-past-place h = first-none (place-causes m b o n) of-read h
 
@@ -147,9 +147,9 @@ another-none : (P : ℕ → Bool) (b n : ℕ) → ((c : ℕ) → c < n → (c �
 another-none P b zero h = refl
 another-none P b (suc n) h =
     ⊎-elim
-      (λ (e : n ≡ b). rw (eq-eqb n b e) (another-none P b n (λ c l. h c (omega arith))))
-      (λ (e : n ≡ b → ⊥). rw (ne-eqb n b e, h n (omega arith) e) (another-none P b n (λ c l. h c (omega arith))))
-      (cases-eq n b)
+    (λ (e : n ≡ b). rw (eq-eqb n b e) (another-none P b n (λ c l. h c (omega arith))))
+    (λ (e : n ≡ b → ⊥). rw (ne-eqb n b e, h n (omega arith) e) (another-none P b n (λ c l. h c (omega arith))))
+    (cases-eq n b)
 
 pub none-other : (m : Meaning) (b : ℕ) → ((c : ℕ) → c < m .blocks → (c ≡ b → ⊥) → m .shown c ≡ m .settled c) → other-held m b ≡ false
 unfolding other-held

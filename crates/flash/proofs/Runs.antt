@@ -41,5 +41,5 @@ module _ (ops : List Operation) (i : ℕ) (d : Operation) (h : i < length ops) (
   ran-up-to e did =
       let p = subst (λ (l : List Op). Ran l m (Err e) o) (sym one-more) (ran-then ran (stop did)) in
       subst (λ (l : List Op). Ran l m (Err e) o)
-        (sym (map-append op-shown (take (i + 1) ops) (drop (i + 1) ops)) ∙ ap ops-shown (take-append-drop (i + 1) ops))
-        (ran-stopped (ops-shown (drop (i + 1) ops)) p)
+      (sym (map-append op-shown (take (i + 1) ops) (drop (i + 1) ops)) ∙ ap ops-shown (take-append-drop (i + 1) ops))
+      (ran-stopped (ops-shown (drop (i + 1) ops)) p)

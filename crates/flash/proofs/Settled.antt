@@ -17,14 +17,14 @@ use Rattle.flash.specs.Settling.{Nothing-held}
 pub nothing-held : (m : Meaning) → Sane m → m .page ≡ m .batch → Nothing-held m
 nothing-held m s e b there =
     ext-getD lost (m .shown b) (m .settled b) (s .shown-length b there ∙ sym (s .settled-length b there))
-      (λ i h. same i (omega (arith, s .shown-length b there)))
+    (λ i h. same i (omega (arith, s .shown-length b there)))
   where
     same : (i : ℕ) → i < m .size → shown-at m b i ≡ settled-at m b i
     same i h =
         s .agree b i there h
-          (λ _ lo hi.
-            let z : s .held-end % m .batch ≡ 0 = subst (λ (p : ℕ). s .held-end % p ≡ 0) e (s .held-pages) in
-            omega (arith, div-add-mod' (s .held-end) (m .batch)))
+        (λ _ lo hi.
+        let z : s .held-end % m .batch ≡ 0 = subst (λ (p : ℕ). s .held-end % p ≡ 0) e (s .held-pages) in
+        omega (arith, div-add-mod' (s .held-end) (m .batch)))
 
 -- what a shape tells of the flash
 module _ (s : Shape) (m : Meaning) (r : Bool) (shaped : Shaped s m) (is : r ≡ eqb (s .page) (s .batch)) where

@@ -70,4 +70,4 @@ pub record Sane (m : Meaning) : Type 0 where
   pub held-end : ℕ
   pub held-pages : held-end % m .page ≡ 0
   pub agree : (b i : ℕ) → b < m .blocks → i < m .size → (b ≡ held-block → batch-end m held-end ≤ i → i < held-end → ⊥)
-    → shown-at m b i ≡ settled-at m b i
+      → shown-at m b i ≡ settled-at m b i

@@ -35,22 +35,30 @@ meant m b o run = over (m .shown b) o (cells run)
 
 -- the meaning after a program: the run is shown, each batch that ends at or before its end is settled; k is the new mark
 unfoldable pub programmed : Meaning → ℕ → ℕ → List ℕ → ℕ → Meaning
-programmed m b o run k = record
-  { blocks = m .blocks; size = m .size; page = m .page; batch = m .batch
-  ; shown = with-at (m .shown) b (meant m b o run)
-  ; settled = with-at (m .settled) b (mixed (batch-end m (o + length run)) (meant m b o run) (m .settled b))
-  ; mark = with-at (m .mark) b k
-  ; power = m .power }
+programmed m b o run k = record {
+  blocks = m .blocks;
+  size = m .size;
+  page = m .page;
+  batch = m .batch;
+  shown = with-at (m .shown) b (meant m b o run);
+  settled = with-at (m .settled) b (mixed (batch-end m (o + length run)) (meant m b o run) (m .settled b));
+  mark = with-at (m .mark) b k;
+  power = m .power;
+}
 
 -- the power failed and left xs in the block b; k are the marks. Without power nothing can be seen, so shown is taken
 -- as settled
 unfoldable pub broken : Meaning → ℕ → List Cell → (ℕ → ℕ) → Meaning
-broken m b xs k = record
-  { blocks = m .blocks; size = m .size; page = m .page; batch = m .batch
-  ; shown = with-at (m .settled) b xs
-  ; settled = with-at (m .settled) b xs
-  ; mark = k
-  ; power = off }
+broken m b xs k = record {
+  blocks = m .blocks;
+  size = m .size;
+  page = m .page;
+  batch = m .batch;
+  shown = with-at (m .settled) b xs;
+  settled = with-at (m .settled) b xs;
+  mark = k;
+  power = off;
+}
 
 -- n cells that a failure left: any bytes, or none that can be read
 pub data Spoilt (n : ℕ) (xs : List Cell) : Type 0 where
@@ -98,12 +106,16 @@ pub data Programmed (m : Meaning) (b o : ℕ) (run : List ℕ) (r : Answer) (n :
 -- ─── erase ───
 
 unfoldable pub erased : Meaning → ℕ → Meaning
-erased m b = record
-  { blocks = m .blocks; size = m .size; page = m .page; batch = m .batch
-  ; shown = with-at (m .shown) b (blank (m .size))
-  ; settled = with-at (m .settled) b (blank (m .size))
-  ; mark = with-at (m .mark) b 0
-  ; power = m .power }
+erased m b = record {
+  blocks = m .blocks;
+  size = m .size;
+  page = m .page;
+  batch = m .batch;
+  shown = with-at (m .shown) b (blank (m .size));
+  settled = with-at (m .settled) b (blank (m .size));
+  mark = with-at (m .mark) b 0;
+  power = m .power;
+}
 
 -- the cells of a block's i-th batch
 abbrev pub batch-of : Meaning → ℕ → List Cell → List Cell
@@ -119,22 +131,29 @@ pub data Erased (m : Meaning) (b : ℕ) (r : Answer) (n : Meaning) : Type 0 wher
   refused : (e : Refusal) → erase-refusal m b ≡ Some e → r ≡ Err e → n ≡ m → Erased m b r n
   done : erase-refusal m b ≡ None → r ≡ Ok tt → n ≡ erased m b → Erased m b r n
   failed : (left : List Cell) (marks : ℕ → ℕ) → erase-refusal m b ≡ None → m .power ≡ armed → r ≡ Err NoPower
-    → length left ≡ m .size
-    → ((i : ℕ) → Worn (batch-of m i (m .settled b)) (batch-of m i left)) → n ≡ broken m b left marks → Erased m b r n
+      → length left ≡ m .size
+      → ((i : ℕ) → Worn (batch-of m i (m .settled b)) (batch-of m i left)) → n ≡ broken m b left marks → Erased m b r n
 
 -- ─── read ───
 
 pub data Fetched (m : Meaning) (b o : ℕ) (old : List ℕ) (r : Answer) (new : List ℕ) : Type 0 where
   refused : (e : Refusal) → read-refusal m b o (length old) ≡ Some e → r ≡ Err e → new ≡ old → Fetched m b o old r new
   done : read-refusal m b o (length old) ≡ None → r ≡ Ok tt
-    → cells new ≡ part (m .shown b) o (length old) → Fetched m b o old r new
+      → cells new ≡ part (m .shown b) o (length old) → Fetched m b o old r new
 
 -- ─── arm and restart ───
 
 unfoldable pub powered : Meaning → Power → Meaning
-powered m p = record
-  { blocks = m .blocks; size = m .size; page = m .page; batch = m .batch
-  ; shown = m .shown; settled = m .settled; mark = m .mark; power = p }
+powered m p = record {
+  blocks = m .blocks;
+  size = m .size;
+  page = m .page;
+  batch = m .batch;
+  shown = m .shown;
+  settled = m .settled;
+  mark = m .mark;
+  power = p;
+}
 
 pub data Armed (m : Meaning) (r : Answer) (n : Meaning) : Type 0 where
   refused : (e : Refusal) → arm-refusal m ≡ Some e → r ≡ Err e → n ≡ m → Armed m r n
@@ -142,9 +161,16 @@ pub data Armed (m : Meaning) (r : Answer) (n : Meaning) : Type 0 where
 
 -- the power is steady, and what was held is lost; k are the marks
 unfoldable pub restarted : Meaning → (ℕ → ℕ) → Meaning
-restarted m k = record
-  { blocks = m .blocks; size = m .size; page = m .page; batch = m .batch
-  ; shown = m .settled; settled = m .settled; mark = k; power = steady }
+restarted m k = record {
+  blocks = m .blocks;
+  size = m .size;
+  page = m .page;
+  batch = m .batch;
+  shown = m .settled;
+  settled = m .settled;
+  mark = k;
+  power = steady;
+}
 
 pub record Restarted (m n : Meaning) : Type 0 where
   pub marks : ℕ → ℕ

@@ -2,7 +2,6 @@
 ghost use mathlib.Core.Path.{_≡_};
 ghost use Rattle.flash.specs.Meaning.{Meaning, Sane};
 ghost use Rattle.flash.specs.Rules.{Programmed, Erased, Fetched, Restarted, Armed, mark-answer, Shaped};
-
 use crate::place::Place;
 use crate::place::Shape;
 use crate::refusal::Refusal;

@@ -6,7 +6,6 @@ ghost use Rattle.flash.specs.Meaning.{Meaning, Sane};
 ghost use Rattle.flash.specs.Ran.{Ran, Did, Composes, program, erase};
 ghost use Rattle.flash.specs.Settling.{Nothing-held};
 ghost use Rattle.flash.specs.Shown.{op-shown, ops-shown};
-
 use crate::interface::Flash;
 use crate::operation::Operation;
 use crate::place::Place;
