@@ -2,5 +2,10 @@
 // says which they are.
 ghost use Rattle.nodes.specs.Shown.{entry-shown, content-shown};
 
+pub(crate) mod bytes;
+pub mod header;
+pub mod item;
 pub mod kind;
+pub(crate) mod node;
+pub(crate) mod readable;
 pub mod record;
