@@ -4,3 +4,6 @@ pub mod Marks
 pub mod Heads
 pub mod Cuts
 pub mod Records
+pub mod Fronts
+pub mod Viewed
+pub mod Decided

@@ -3,6 +3,7 @@
 ghost use Rattle.nodes.specs.Shown.{entry-shown, content-shown};
 
 pub(crate) mod bytes;
+pub(crate) mod decide;
 pub mod header;
 pub mod item;
 pub mod kind;
