@@ -7,7 +7,7 @@ use native.Mathlib.Omega.{arith}
 use lib.ListN.{length, getD, take, drop}
 use Rattle.std.proofs.shelf.Tests.{cond-true, cond-false, cases-lt, true≢false, false≢true}
 use mathlib.Core.Logic.{inl, inr, ⊎-elim}
-use Rattle.flash.specs.Cells.{Cell, byte, lost, front}
+use Rattle.flash.specs.Cells.{Cell, byte, lost, cells, front}
 use Rattle.nodes.specs.Seen.{seen-from, readable}
 
 pub length-seen : (fs : List Bool) (at : ℕ) (bs : List ℕ) → length (seen-from fs at bs) ≡ length bs
@@ -71,3 +71,13 @@ readable-not fs at (suc n) k p l m e =
     go : (t : Bool) → readable fs (suc at) n ≡ false → cond t (readable fs (suc at) n) false ≡ false
     go true h = h
     go false h = refl
+
+pub take-seen : (fs : List Bool) (at n : ℕ) (bs : List ℕ) → n ≤ length (front (seen-from fs at bs)) → take n (seen-from fs at bs) ≡ cells (take n bs)
+unfolding seen-from front
+take-seen fs at zero bs h = refl
+take-seen fs at (suc n) [] h = refl
+take-seen fs at (suc n) (b ∷ bs) h = go (getD fs (at / 4) false) (take-seen fs (suc at) n bs) h
+  where
+    go : (t : Bool) → (n ≤ length (front (seen-from fs (suc at) bs)) → take n (seen-from fs (suc at) bs) ≡ cells (take n bs)) → suc n ≤ length (front (cond t (byte b) lost ∷ seen-from fs (suc at) bs)) → cond t (byte b) lost ∷ take n (seen-from fs (suc at) bs) ≡ byte b ∷ cells (take n bs)
+    go true below h = ap (λ l. byte b ∷ l) (below (omega arith))
+    go false below h = absurd (omega arith)

@@ -7,3 +7,4 @@ pub mod Records
 pub mod Fronts
 pub mod Viewed
 pub mod Decided
+pub mod Reading

@@ -9,3 +9,4 @@ pub mod Headers
 pub mod Seen
 pub mod Views
 pub mod Passing
+pub mod Reading

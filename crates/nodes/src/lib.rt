@@ -9,4 +9,6 @@ pub mod item;
 pub mod kind;
 pub(crate) mod node;
 pub(crate) mod readable;
+pub mod reader;
 pub mod record;
+pub mod walk;
