@@ -8,3 +8,4 @@ pub mod Fronts
 pub mod Viewed
 pub mod Decided
 pub mod Reading
+pub mod Judging

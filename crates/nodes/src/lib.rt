@@ -6,6 +6,7 @@ pub(crate) mod bytes;
 pub(crate) mod decide;
 pub mod header;
 pub mod item;
+pub mod judge;
 pub mod kind;
 pub(crate) mod node;
 pub(crate) mod readable;
