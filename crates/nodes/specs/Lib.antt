@@ -5,3 +5,8 @@ pub mod Walk
 pub mod Records
 pub mod Offences
 pub mod Shown
+pub mod Headers
+pub mod Seen
+pub mod Views
+pub mod Passing
+pub mod Reading

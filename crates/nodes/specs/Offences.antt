@@ -3,6 +3,9 @@
 -- name-fits       whether bytes are a name: 1 to 32 of them, none 0 or '/', and not "." or ".."
 -- offence         why a mount refuses an item, if it does: a kind that has to be known and is not, or compression that
 --                 is not known (Kind, 6); a field that breaks a rule (Field, 7)
+-- offence-of      the same, by what the item is
+-- Judged          that both agree at every item that stands anywhere
+use mathlib.Core.Path.{_≡_}
 use mathlib.Core.Bool.{Bool, true, false, cond, not}
 use mathlib.Core.List.{List, [], _∷_}
 use Prim.Native.Nat.{ℕ, _+_}
@@ -12,9 +15,11 @@ use Rattle.std.specs.declared.option.Option.{Option}
 use Rattle.std.specs.declared.option.Option.the-variants.{Some, None}
 use Rattle.flash.specs.declared.refusal.Refusal.{Refusal}
 use Rattle.flash.specs.declared.refusal.Refusal.the-variants.{Kind, Field}
+use Rattle.flash.specs.Cells.{Cell}
 use Rattle.nodes.specs.Fields.{all}
-use Rattle.nodes.specs.Items.{Item, kind, totlen, is-word, nsize, csize}
+use Rattle.nodes.specs.Items.{Item, kind, totlen, is-word, stands}
 use Rattle.nodes.specs.Records.{Entry, Content, read-entry, read-content}
+use Rattle.nodes.specs.Views.{View, zero-word, marker-of, padding-of, unknown-of, entry-of, content-of, view}
 
 -- whether two tests agree
 abbrev pub same : Bool → Bool → Bool
@@ -36,7 +41,7 @@ dots (a ∷ []) = eqb a 0x2E
 dots (a ∷ b ∷ []) = cond (eqb a 0x2E) (eqb b 0x2E) false
 dots (a ∷ b ∷ c ∷ bs) = false
 
-unfoldable pub name-fits : List ℕ → Bool
+abbrev pub name-fits : List ℕ → Bool
 name-fits bs = all (leb 1 (length bs) ∷ leb (length bs) 32 ∷ plain bs ∷ not (dots bs) ∷ [])
 
 -- what the fields of an entry of n bytes have to be
@@ -70,3 +75,14 @@ offence it =
     (cond (eqb (kind it) 0xE001) (entry-offence (totlen it) (read-entry it))
     (cond (eqb (kind it) 0xE002) (content-offence (totlen it) (read-content it))
     (cond (leb 0x8000 (kind it)) (Some Kind) None)))
+
+abbrev pub offence-of : View → Option Refusal
+offence-of zero-word = None
+offence-of (marker-of n) = None
+offence-of (padding-of n) = None
+offence-of (unknown-of k n) = cond (leb 0x8000 k) (Some Kind) None
+offence-of (entry-of bs x) = entry-offence (length bs) x
+offence-of (content-of bs x) = content-offence (length bs) x
+
+abbrev pub Judged : View → Option Refusal → Type 0
+Judged v r = (cs : List Cell) (it : Item) → stands cs ≡ Some it → v ≡ view it → r ≡ offence it

@@ -51,7 +51,7 @@ impl FileKind {
         }
     }
 
-    // The mode in a content: a regular file that its owner writes and all read, or a directory that all search.
+    // The mode in a content: a regular file that its owner writes and all read, or a directory that all read and enter.
     pub fn mode(self) -> u32
         ensures { λ r. ⌜ r ≡ mode-of self ⌝ }
     {
