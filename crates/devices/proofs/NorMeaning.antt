@@ -28,6 +28,9 @@ SIZE-small : SIZE < 2 ^ 32
 unfolding SIZE
 SIZE-small = omega arith
 
+not-lost : (n : ℕ) → byte n ≡ lost → ⊥
+not-lost n e = let z : _≡_ {A = ℕ} 0 1 = cc in omega arith
+
 getD-cells : (xs : List ℕ) (i : ℕ) → i < length xs → getD (cells xs) i lost ≡ byte (getD xs i 0)
 getD-cells [] i h = absurd (omega arith)
 getD-cells (x ∷ xs) zero h = refl
@@ -44,6 +47,8 @@ nor-sane mem s = record {
   blocks-fit = omega arith;
   shown-length = long;
   settled-length = long;
+  shown-pages = whole;
+  settled-pages = whole;
   mark-within = λ b h. mark-high (part-of SIZE mem b) SIZE SIZE-pages (omega (arith, used-le (part-of SIZE mem b), full b h));
   shown-blank = blank-behind;
   settled-blank = blank-behind;
@@ -58,6 +63,12 @@ nor-sane mem s = record {
 
     long : (b : ℕ) → b < min (length mem / SIZE) 16 → length (cells (part-of SIZE mem b)) ≡ SIZE
     long b h = length-map (part-of SIZE mem b) byte ∙ full b h
+
+    whole : (b i j : ℕ) → b < min (length mem / SIZE) 16 → i < SIZE → j < SIZE → i / 4 ≡ j / 4
+      → getD (cells (part-of SIZE mem b)) i lost ≡ lost → getD (cells (part-of SIZE mem b)) j lost ≡ lost
+    whole b i j there h k e l =
+        let r = getD-cells (part-of SIZE mem b) i (omega (arith, full b there)) in
+        absurd (not-lost (getD (part-of SIZE mem b) i 0) (sym r ∙ l))
 
     blank-behind : (b i : ℕ) → b < min (length mem / SIZE) 16 → mark-of (part-of SIZE mem b) ≤ i → i < SIZE → getD (cells (part-of SIZE mem b)) i lost ≡ byte 255
     blank-behind b i there low h =

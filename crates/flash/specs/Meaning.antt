@@ -53,7 +53,6 @@ settled-at m b i = getD (m .settled b) i lost
 abbrev pub batch-end : Meaning → ℕ → ℕ
 batch-end m e = e / m .batch * m .batch
 
--- Shown and settled agree but in one block, in the batch of a place held-end at which a page begins, and before it
 pub record Sane (m : Meaning) : Type 0 where
   pub some-page : 0 < m .page
   pub some-batch : 0 < m .batch
@@ -63,9 +62,13 @@ pub record Sane (m : Meaning) : Type 0 where
   pub blocks-fit : m .blocks < 2 ^ 32
   pub shown-length : (b : ℕ) → b < m .blocks → length (m .shown b) ≡ m .size
   pub settled-length : (b : ℕ) → b < m .blocks → length (m .settled b) ≡ m .size
+  -- a page is readable as a whole or not at all
+  pub shown-pages : (b i j : ℕ) → b < m .blocks → i < m .size → j < m .size → i / m .page ≡ j / m .page → shown-at m b i ≡ lost → shown-at m b j ≡ lost
+  pub settled-pages : (b i j : ℕ) → b < m .blocks → i < m .size → j < m .size → i / m .page ≡ j / m .page → settled-at m b i ≡ lost → settled-at m b j ≡ lost
   pub mark-within : (b : ℕ) → b < m .blocks → m .mark b ≤ m .size
   pub shown-blank : (b i : ℕ) → b < m .blocks → m .mark b ≤ i → i < m .size → shown-at m b i ≡ byte 255
   pub settled-blank : (b i : ℕ) → b < m .blocks → m .mark b ≤ i → i < m .size → settled-at m b i ≡ byte 255
+  -- shown and settled agree but in one block, in the batch of a place held-end at which a page begins, and before it
   pub held-block : ℕ
   pub held-end : ℕ
   pub held-pages : held-end % m .page ≡ 0
