@@ -49,7 +49,9 @@ pub(crate) fn item_with<'a>(
                 return None;
             }
             let bytes = &rest[0..length];
-            let entry = read_entry(bytes)?;
+            let Some(entry) = read_entry(bytes) else {
+                return None;
+            };
             Some(Item::Entry { bytes, entry })
         }
         Kind::Content => {
@@ -57,7 +59,9 @@ pub(crate) fn item_with<'a>(
                 return None;
             }
             let bytes = &rest[0..length];
-            let content = read_content(bytes)?;
+            let Some(content) = read_content(bytes) else {
+                return None;
+            };
             Some(Item::Content { bytes, content })
         }
     }
@@ -81,8 +85,12 @@ pub(crate) fn standing_at<'a>(rest: &'a [u8], readable: &[bool], at: usize) -> O
     if !reaches(rest, readable, at, 12) {
         return None;
     }
-    let header = passing_header(rest)?;
-    let item = item_with(rest, readable, at, header)?;
+    let Some(header) = passing_header(rest) else {
+        return None;
+    };
+    let Some(item) = item_with(rest, readable, at, header) else {
+        return None;
+    };
     Some(Standing {
         item,
         size: padded_len(header.totlen),

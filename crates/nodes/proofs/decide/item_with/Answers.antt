@@ -37,24 +37,22 @@ pub read-content-requires : need.read-content-requires
 read-content-requires c κs =
     node-length (c .pre .headed) (c .args .header .totlen - 0) (omega arith) (c .if-not-reaches-2 .ensures tt)
 
-pub returns-in-Break-entry : need.returns-in-Break-entry
-returns-in-Break-entry c =
-    rw (c .from-residual .ensures)
-    (entry-fails (c .pre .headed) (c .args .header .totlen - 0) (omega arith)
-    (c .if-not-reaches .ensures tt) (ap Some (sym (c .in-Entry .is)) ∙ c .in-Some .ensures tt) (c .in-Break-entry .ensures tt))
+pub returns-in-rest-read-entry : need.returns-in-rest-read-entry
+returns-in-rest-read-entry c =
+    entry-fails (c .pre .headed) (c .args .header .totlen - 0) (omega arith)
+    (c .if-not-reaches .ensures tt) (ap Some (sym (c .in-Entry .is)) ∙ c .in-Some .ensures tt) (c .in-rest-read-entry .ensures tt)
 
-pub returns-in-Break-content : need.returns-in-Break-content
-returns-in-Break-content c =
-    rw (c .from-residual-in-Break-content .ensures)
-    (content-fails (c .pre .headed) (c .args .header .totlen - 0) (omega arith)
-    (c .if-not-reaches-2 .ensures tt) (ap Some (sym (c .in-Content .is)) ∙ c .in-Some .ensures tt) (c .in-Break-content .ensures tt))
+pub returns-in-rest-read-content : need.returns-in-rest-read-content
+returns-in-rest-read-content c =
+    content-fails (c .pre .headed) (c .args .header .totlen - 0) (omega arith)
+    (c .if-not-reaches-2 .ensures tt) (ap Some (sym (c .in-Content .is)) ∙ c .in-Some .ensures tt) (c .in-rest-read-content .ensures tt)
 
-pub returns-in-Continue-entry : need.returns-in-Continue-entry
-returns-in-Continue-entry c =
+pub returns-in-Some-read-entry : need.returns-in-Some-read-entry
+returns-in-Some-read-entry c =
     entry-viewed (c .pre .headed) (c .args .header .totlen - 0) (omega arith) _
-    (c .if-not-reaches .ensures tt) (ap Some (sym (c .in-Entry .is)) ∙ c .in-Some .ensures tt) (c .in-Continue-entry .ensures tt)
+    (c .if-not-reaches .ensures tt) (ap Some (sym (c .in-Entry .is)) ∙ c .in-Some .ensures tt) (c .in-Some-read-entry .ensures tt)
 
-pub returns-in-Continue-content : need.returns-in-Continue-content
-returns-in-Continue-content c =
+pub returns-in-Some-read-content : need.returns-in-Some-read-content
+returns-in-Some-read-content c =
     content-viewed (c .pre .headed) (c .args .header .totlen - 0) (omega arith) _
-    (c .if-not-reaches-2 .ensures tt) (ap Some (sym (c .in-Content .is)) ∙ c .in-Some .ensures tt) (c .in-Continue-content .ensures tt)
+    (c .if-not-reaches-2 .ensures tt) (ap Some (sym (c .in-Content .is)) ∙ c .in-Some .ensures tt) (c .in-Some-read-content .ensures tt)
