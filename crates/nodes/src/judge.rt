@@ -30,8 +30,7 @@ fn is_dots(name: &[u8]) -> bool
     ensures { λ r. ⌜ r ≡ dots (now (name .entry)) ⌝ }
 {
     match name {
-        [b'.'] => true,
-        [b'.', b'.'] => true,
+        [b'.'] | [b'.', b'.'] => true,
         _ => false,
     }
 }
@@ -102,7 +101,7 @@ fn entry_offence(n: usize, e: &Entry<'_>) -> Option<Refusal>
     }
 }
 
-// Why a mount refuses a content of n bytes, if it does: its compression has to be known, and its fields as they should.
+// Why a mount refuses a content of n bytes, if it does: its compression has to be known, and its fields have to fit.
 fn content_offence(n: usize, c: &Content<'_>) -> Option<Refusal>
     ensures { λ r. ⌜ r ≡ content-offence n (content-shown (now (c .entry))) ⌝ }
 {
