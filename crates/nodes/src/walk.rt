@@ -6,6 +6,7 @@ ghost use Rattle.nodes.specs.Walk.{marked, walk};
 ghost use Rattle.nodes.specs.Reading.{rest, first-of, behind, found-shown, bears-marker};
 use crate::decide::standing_at;
 use crate::header::read_header;
+use crate::kind::Kind;
 use crate::readable::reaches;
 use crate::reader::Found;
 use crate::reader::Reader;
@@ -16,7 +17,9 @@ fn has_marker(bytes: &[u8]) -> bool
     ensures { λ r. ⌜ r ≡ bears-marker (now (bytes .entry)) ⌝ }
 {
     match read_header(bytes) {
-        Some(header) => header.kind == 0x2003 && header.totlen == 12 && header.sum == 0xe41eb0b1,
+        Some(header) => {
+            header.kind == Kind::Marker.value() && header.totlen == 12 && header.sum == 0xe41eb0b1
+        }
         None => false,
     }
 }
