@@ -165,3 +165,8 @@ stop fs bs p e = go (stands (drop p (seen fs bs))) refl (e ∙ ap views.sized (s
 pub start : (fs : List Bool) (bs : List ℕ) (b : Bool) (p : ℕ) → b ≡ marked (seen fs bs) → p ≡ cond b 0 (length bs) → walk-from (seen fs bs) p ≡ walk (seen fs bs)
 start fs bs true p m e = ap (walk-from (seen fs bs)) e ∙ sym (walk-marked (seen fs bs) (sym m))
 start fs bs false p m e = walk-end fs bs p (omega arith) ∙ sym (walk-bare (seen fs bs) (sym m))
+
+-- what is handed out is one item less to come
+pub one-less : (b : ℕ) (xs : List (ℕ × Item)) (x : Place × View) → Some x ≡ first-of b xs → length xs ≡ length (behind xs) + 1
+one-less b [] x e = absurd (let z : _≡_ {A = ℕ} 0 1 = cc in omega arith)
+one-less b (y ∷ xs) x e = omega arith
