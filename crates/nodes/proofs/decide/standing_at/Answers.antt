@@ -27,5 +27,5 @@ returns-in-rest c =
 
 pub returns : need.returns
 returns c =
-    some-sized (c .args .readable .now) (c .args .at) (c .args .rest .now) (sym (c .if-not-reaches-2 .ensures tt)) (ne-eqb _ 0 (λ e. c .if-le-u32-eq0 .left (c .le-u32 .ensures ∙ e))) _ (c .padded-len .result) (c .in-Some-item-with .ensures tt)
+    some-sized (c .args .readable .now) (c .args .at) (c .args .rest .now) (sym (c .if-not-reaches-2 .ensures tt)) (ne-eqb _ 0 (λ e. c .if-le-u32-eq0 .left (c .le-u32 .ensures ∙ e))) _ (c .padded-len .result) (c .in-Some-item-at .ensures tt)
     (c .padded-len .ensures ∙ ap (λ h. padded (h .totlen)) (passing-some (c .args .rest .now) _ (c .in-Some .ensures tt) .1))
