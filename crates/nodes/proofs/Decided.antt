@@ -176,42 +176,40 @@ module _ {fs : List Bool} {at : ℕ} {bs : List ℕ} {h : Head} (headed : Headed
     node-length r =
         length-take-le n bs (omega (arith, reaching-length fs at bs (h .totlen) (sym r))) ∙ same ∙ length-is ∙ sym (le32-cut bs n 4 (omega (arith, long)))
 
-    entry-at : (b : Bool) → b ≡ reaching fs at bs (h .totlen) → Some kinds.Entry ≡ kind-with (h .kind) → cond b (cond (all (entry (take n bs))) (Some (take n bs)) None) None ≡ stands (seen-from fs at bs)
+    entry-at : (b : Bool) → b ≡ reaching fs at bs (h .totlen) → h .kind ≡ 0xE001 → cond b (cond (all (entry (take n bs))) (Some (take n bs)) None) None ≡ stands (seen-from fs at bs)
     entry-at b r k =
-        let e = kind-known (h .kind) kinds.Entry k in
         let t : n ≡ totlen bs = same ∙ length-is in
-        sym (stands-is fs at bs ∙ entry-offered (length bs) bs (got fs at bs) (leb-true _ _ (headed .all-read)) (got-within fs at bs) (headed .no-word) sound (ap (λ v. eqb v 0xE001) (sym kind-is ∙ e))
+        sym (stands-is fs at bs ∙ entry-offered (length bs) bs (got fs at bs) (leb-true _ _ (headed .all-read)) (got-within fs at bs) (headed .no-word) sound (ap (λ v. eqb v 0xE001) (sym kind-is ∙ k))
         ∙ ap (λ l. cond (leb l (got fs at bs)) (cond (body (take l bs)) (Some (take l bs)) None) None) (sym t)
         ∙ ap (λ v. cond v (cond (body (take n bs)) (Some (take n bs)) None) None) (ap (λ l. leb l (got fs at bs)) same ∙ sym r)
-        ∙ ap (λ v. cond b (cond v (Some (take n bs)) None) None) (cond-true _ _ _ (ap (λ v. eqb v 0xE001) (node-kind ∙ e))))
+        ∙ ap (λ v. cond b (cond v (Some (take n bs)) None) None) (cond-true _ _ _ (ap (λ v. eqb v 0xE001) (node-kind ∙ k))))
 
-    content-at : (b : Bool) → b ≡ reaching fs at bs (h .totlen) → Some kinds.Content ≡ kind-with (h .kind) → cond b (cond (all (content (take n bs))) (Some (take n bs)) None) None ≡ stands (seen-from fs at bs)
+    content-at : (b : Bool) → b ≡ reaching fs at bs (h .totlen) → h .kind ≡ 0xE002 → cond b (cond (all (content (take n bs))) (Some (take n bs)) None) None ≡ stands (seen-from fs at bs)
     content-at b r k =
-        let e = kind-known (h .kind) kinds.Content k in
         let t : n ≡ totlen bs = same ∙ length-is in
-        sym (stands-is fs at bs ∙ content-offered (length bs) bs (got fs at bs) (leb-true _ _ (headed .all-read)) (got-within fs at bs) (headed .no-word) sound (ap (λ v. eqb v 0xE001) (sym kind-is ∙ e)) (ap (λ v. eqb v 0xE002) (sym kind-is ∙ e))
+        sym (stands-is fs at bs ∙ content-offered (length bs) bs (got fs at bs) (leb-true _ _ (headed .all-read)) (got-within fs at bs) (headed .no-word) sound (ap (λ v. eqb v 0xE001) (sym kind-is ∙ k)) (ap (λ v. eqb v 0xE002) (sym kind-is ∙ k))
         ∙ ap (λ l. cond (leb l (got fs at bs)) (cond (body (take l bs)) (Some (take l bs)) None) None) (sym t)
         ∙ ap (λ v. cond v (cond (body (take n bs)) (Some (take n bs)) None) None) (ap (λ l. leb l (got fs at bs)) same ∙ sym r)
-        ∙ ap (λ v. cond b (cond v (Some (take n bs)) None) None) (cond-false _ _ _ (ap (λ v. eqb v 0xE001) (node-kind ∙ e)) ∙ cond-true _ _ _ (ap (λ v. eqb v 0xE002) (node-kind ∙ e))))
+        ∙ ap (λ v. cond b (cond v (Some (take n bs)) None) None) (cond-false _ _ _ (ap (λ v. eqb v 0xE001) (node-kind ∙ k)) ∙ cond-true _ _ _ (ap (λ v. eqb v 0xE002) (node-kind ∙ k))))
 
-    pub entry-viewed : (e : Entry) → true ≡ reaching fs at bs (h .totlen) → Some kinds.Entry ≡ kind-with (h .kind) → Some e ≡ entry-in (take n bs) → Some (entry-of (take n bs) e) ≡ viewed (stands (seen-from fs at bs))
+    pub entry-viewed : (e : Entry) → true ≡ reaching fs at bs (h .totlen) → h .kind ≡ 0xE001 → Some e ≡ entry-in (take n bs) → Some (entry-of (take n bs) e) ≡ viewed (stands (seen-from fs at bs))
     entry-viewed e r k x =
-        entry-given (take n bs) (all (entry (take n bs))) e (view-kind (take n bs) 0xE001 node-word (node-kind ∙ kind-known (h .kind) kinds.Entry k)) x
+        entry-given (take n bs) (all (entry (take n bs))) e (view-kind (take n bs) 0xE001 node-word (node-kind ∙ k)) x
         ∙ ap viewed (entry-at true r k)
 
-    pub content-viewed : (e : Content) → true ≡ reaching fs at bs (h .totlen) → Some kinds.Content ≡ kind-with (h .kind) → Some e ≡ content-in (take n bs) → Some (content-of (take n bs) e) ≡ viewed (stands (seen-from fs at bs))
+    pub content-viewed : (e : Content) → true ≡ reaching fs at bs (h .totlen) → h .kind ≡ 0xE002 → Some e ≡ content-in (take n bs) → Some (content-of (take n bs) e) ≡ viewed (stands (seen-from fs at bs))
     content-viewed e r k x =
-        content-given (take n bs) (all (content (take n bs))) e (view-kind (take n bs) 0xE002 node-word (node-kind ∙ kind-known (h .kind) kinds.Content k)) x
+        content-given (take n bs) (all (content (take n bs))) e (view-kind (take n bs) 0xE002 node-word (node-kind ∙ k)) x
         ∙ ap viewed (content-at true r k)
 
-    pub entry-fails : true ≡ reaching fs at bs (h .totlen) → Some kinds.Entry ≡ kind-with (h .kind) → None ≡ entry-in (take n bs) → None ≡ viewed (stands (seen-from fs at bs))
+    pub entry-fails : true ≡ reaching fs at bs (h .totlen) → h .kind ≡ 0xE001 → None ≡ entry-in (take n bs) → None ≡ viewed (stands (seen-from fs at bs))
     entry-fails r k x = none-given (take n bs) (all (entry (take n bs))) (read-entry (take n bs)) x ∙ ap viewed (entry-at true r k)
 
-    pub content-fails : true ≡ reaching fs at bs (h .totlen) → Some kinds.Content ≡ kind-with (h .kind) → None ≡ content-in (take n bs) → None ≡ viewed (stands (seen-from fs at bs))
+    pub content-fails : true ≡ reaching fs at bs (h .totlen) → h .kind ≡ 0xE002 → None ≡ content-in (take n bs) → None ≡ viewed (stands (seen-from fs at bs))
     content-fails r k x = none-given (take n bs) (all (content (take n bs))) (read-content (take n bs)) x ∙ ap viewed (content-at true r k)
 
-  pub entry-short : false ≡ reaching fs at bs (h .totlen) → Some kinds.Entry ≡ kind-with (h .kind) → None ≡ viewed (stands (seen-from fs at bs))
+  pub entry-short : false ≡ reaching fs at bs (h .totlen) → h .kind ≡ 0xE001 → None ≡ viewed (stands (seen-from fs at bs))
   entry-short r k = ap viewed (entry-at (h .totlen) refl false r k)
 
-  pub content-short : false ≡ reaching fs at bs (h .totlen) → Some kinds.Content ≡ kind-with (h .kind) → None ≡ viewed (stands (seen-from fs at bs))
+  pub content-short : false ≡ reaching fs at bs (h .totlen) → h .kind ≡ 0xE002 → None ≡ viewed (stands (seen-from fs at bs))
   content-short r k = ap viewed (content-at (h .totlen) refl false r k)

@@ -2,7 +2,7 @@
 use mathlib.Core.Path.{_≡_, refl, sym, ap, subst, _∙_}
 use mathlib.Core.Bool.{Bool, true, false, cond}
 use mathlib.Core.List.{List, [], _∷_, _++_}
-use Prim.Native.Nat.{ℕ, zero, suc, _+_, _-_, _≤_, _<_}
+use Prim.Native.Nat.{ℕ, _+_, _-_, _*_, _≤_, _<_}
 use native.Mathlib.Omega.{arith}
 use lib.Dec.{eqb, leb}
 use lib.ListN.{length, getD, take, drop, length-drop, length-take}
@@ -13,39 +13,80 @@ use Rattle.std.specs.declared.option.Option.{Option}
 use Rattle.std.specs.declared.option.Option.the-variants.{Some, None}
 use Rattle.flash.specs.declared.place.Place.{Place}
 use Rattle.flash.specs.Cells.{Cell, byte, lost, cells, front}
-use Rattle.nodes.specs.Fields.{all}
+use Rattle.nodes.specs.Fields.{le16, le32, all}
+use Rattle.nodes.specs.Headers.{begins}
 use Rattle.nodes.specs.Items.{Item, stands, size}
 use Rattle.nodes.specs.Seen.{seen, seen-from, reaching}
 use Rattle.nodes.specs.Views as views
 use Rattle.nodes.specs.Views.{View, view}
 use Rattle.nodes.specs.Walk.{walk, walk-from, marked, marker}
-use Rattle.nodes.specs.Reading.{first-of, behind, marker-tests, bears-marker}
+use Rattle.nodes.specs.Reading.{first-of, behind, bears-marker}
 use Rattle.nodes.proofs.Standing.{stands-reads, sized, at-all}
 use Rattle.nodes.proofs.Walks.{item-at, none-at}
 use Rattle.nodes.proofs.Marks.{marked-cells, cells-marked, walk-marked, walk-bare}
 use Rattle.nodes.proofs.Cuts.{length-seen, drop-seen, front-seen, take-seen}
 
--- the marker, byte by byte
-marker-from : (bs : List ℕ) → bears-marker bs ≡ true → take 12 bs ≡ marker
-marker-from bs e =
-    let l : 12 ≤ length bs = leb-true _ _ (t 0) in
-    text-from-reads (take 12 bs) marker (length-take-le 12 bs l)
-    (b 0 (omega arith) ∙ eqb-true _ _ (t 1), (b 1 (omega arith) ∙ eqb-true _ _ (t 2), (b 2 (omega arith) ∙ eqb-true _ _ (t 3), (b 3 (omega arith) ∙ eqb-true _ _ (t 4), (b 4 (omega arith) ∙ eqb-true _ _ (t 5), (b 5 (omega arith) ∙ eqb-true _ _ (t 6), (b 6 (omega arith) ∙ eqb-true _ _ (t 7), (b 7 (omega arith) ∙ eqb-true _ _ (t 8), (b 8 (omega arith) ∙ eqb-true _ _ (t 9), (b 9 (omega arith) ∙ eqb-true _ _ (t 10), (b 10 (omega arith) ∙ eqb-true _ _ (t 11), (b 11 (omega arith) ∙ eqb-true _ _ (t 12), tt))))))))))))
+low-byte : (a r x s : ℕ) → a < 256 → x < 256 → a + r * 256 ≡ x + s * 256 → (a ≡ x) × (r ≡ s)
+low-byte a r x s h k e = (omega arith, omega arith)
+
+four-bytes : (a b c d x y z w : ℕ) → a < 256 → b < 256 → c < 256 → x < 256 → y < 256 → z < 256 → a + b * 256 + c * 65536 + d * 16777216 ≡ x + y * 256 + z * 65536 + w * 16777216 → (a ≡ x) × (b ≡ y) × (c ≡ z) × (d ≡ w)
+four-bytes a b c d x y z w h k l m n o e =
+    let p = low-byte a (b + (c + d * 256) * 256) x (y + (z + w * 256) * 256) h m (omega arith) in
+    let q = low-byte b (c + d * 256) y (z + w * 256) k n (p .1) in
+    let r = low-byte c d z w l o (q .1) in
+    (p .0, q .0, r .0, r .1)
+
+-- the bytes of the marker, by the fields of its header; no byte is more than 255
+marker-from : (bs : List ℕ) → ((i : ℕ) → getD bs i 0 < 256) → bears-marker bs ≡ true → take 12 bs ≡ marker
+unfolding le16 le32
+marker-from bs small e =
+    let l : 12 ≤ length bs = leb-true _ _ (at-all (leb 12 (length bs) ∷ eqb (getD bs 0 0) 0x85 ∷ eqb (getD bs 1 0) 0x19 ∷ []) (t 0) 0) in
+    let m₀ : getD bs 0 0 ≡ 0x85 = eqb-true _ _ (at-all (leb 12 (length bs) ∷ eqb (getD bs 0 0) 0x85 ∷ eqb (getD bs 1 0) 0x19 ∷ []) (t 0) 1) in
+    let m₁ : getD bs 1 0 ≡ 0x19 = eqb-true _ _ (at-all (leb 12 (length bs) ∷ eqb (getD bs 0 0) 0x85 ∷ eqb (getD bs 1 0) 0x19 ∷ []) (t 0) 2) in
+    let kind = low-byte (getD bs 2 0) (getD bs 3 0) 0x03 0x20 (small 2) (omega arith) (eqb-true _ _ (t 1)) in
+    let len = four-bytes (getD bs 4 0) (getD bs 5 0) (getD bs 6 0) (getD bs 7 0) 0x0C 0x00 0x00 0x00 (small 4) (small 5) (small 6) (omega arith) (omega arith) (omega arith) (eqb-true _ _ (t 2)) in
+    let sum = four-bytes (getD bs 8 0) (getD bs 9 0) (getD bs 10 0) (getD bs 11 0) 0xB1 0xB0 0x1E 0xE4 (small 8) (small 9) (small 10) (omega arith) (omega arith) (omega arith) (eqb-true _ _ (t 3)) in
+    text-from-reads (take 12 bs) marker (length-take-le 12 bs l) (
+      b 0 (omega arith) ∙ m₀,
+      (
+        b 1 (omega arith) ∙ m₁,
+        (
+          b 2 (omega arith) ∙ kind .0,
+          (
+            b 3 (omega arith) ∙ kind .1,
+            (
+              b 4 (omega arith) ∙ len .0,
+              (
+                b 5 (omega arith) ∙ len .1,
+                (
+                  b 6 (omega arith) ∙ len .2,
+                  (
+                    b 7 (omega arith) ∙ len .3,
+                    (b 8 (omega arith) ∙ sum .0, (b 9 (omega arith) ∙ sum .1, (b 10 (omega arith) ∙ sum .2, (b 11 (omega arith) ∙ sum .3, tt)))),
+                  ),
+                ),
+              ),
+            ),
+          ),
+        ),
+      ),
+    )
   where
-    t : (k : ℕ) → getD (marker-tests bs) k true ≡ true
-    t k = at-all (marker-tests bs) e k
+    t : (k : ℕ) → getD (begins bs ∷ eqb (le16 bs 2) 0x2003 ∷ eqb (le32 bs 4) 12 ∷ eqb (le32 bs 8) 0xE41EB0B1 ∷ []) k true ≡ true
+    t k = at-all (begins bs ∷ eqb (le16 bs 2) 0x2003 ∷ eqb (le32 bs 4) 12 ∷ eqb (le32 bs 8) 0xE41EB0B1 ∷ []) e k
 
     b : (k : ℕ) → k < 12 → getD (take 12 bs) k 0 ≡ getD bs k 0
     b k h = getD-take 12 bs k 0 h
 
 marker-bears : (bs : List ℕ) → take 12 bs ≡ marker → bears-marker bs ≡ true
+unfolding le16 le32
 marker-bears bs e =
     ap bears-marker (sym (take-append-drop 12 bs) ∙ ap (λ l. l ++ drop 12 bs) e)
-    ∙ ap (λ b. cond b true false) (le-leb 12 (length (marker ++ drop 12 bs)) (omega arith))
+    ∙ ap (λ b. cond (cond b true false) true false) (le-leb 12 (length (marker ++ drop 12 bs)) (omega arith))
 
-pub marked-seen : (fs : List Bool) (bs : List ℕ) → reaching fs 0 bs 12 ≡ true → bears-marker bs ≡ true → marked (seen fs bs) ≡ true
-marked-seen fs bs r e =
-    cells-marked (seen fs bs) (take-seen fs 0 12 bs (leb-true _ _ r) ∙ ap cells (marker-from bs e))
+pub marked-seen : (fs : List Bool) (bs : List ℕ) → ((i : ℕ) → getD bs i 0 < 256) → reaching fs 0 bs 12 ≡ true → bears-marker bs ≡ true → marked (seen fs bs) ≡ true
+marked-seen fs bs small r e =
+    cells-marked (seen fs bs) (take-seen fs 0 12 bs (leb-true _ _ r) ∙ ap cells (marker-from bs small e))
 
 front-marked : (xs : List Cell) → take 12 xs ≡ cells marker → front xs ≡ marker ++ front (drop 12 xs)
 unfolding front
@@ -60,9 +101,9 @@ seen-marked fs bs m =
     )
 
 -- the code's test, part by part
-pub marked-both : (fs : List Bool) (bs : List ℕ) (b : Bool) → true ≡ reaching fs 0 bs 12 → b ≡ bears-marker bs → b ≡ marked (seen fs bs)
-marked-both fs bs true r e = sym (marked-seen fs bs (sym r) (sym e))
-marked-both fs bs false r e = go (marked (seen fs bs)) refl
+pub marked-both : (fs : List Bool) (bs : List ℕ) (b : Bool) → ((i : ℕ) → getD bs i 0 < 256) → true ≡ reaching fs 0 bs 12 → b ≡ bears-marker bs → b ≡ marked (seen fs bs)
+marked-both fs bs true small r e = sym (marked-seen fs bs small (sym r) (sym e))
+marked-both fs bs false small r e = go (marked (seen fs bs)) refl
   where
     go : (m : Bool) → marked (seen fs bs) ≡ m → false ≡ m
     go true h = absurd (both-ways _ (sym e) (seen-marked fs bs h .1))
@@ -109,7 +150,7 @@ step fs bs p v n l e = go (stands (drop p (seen fs bs))) refl (e ∙ ap views.si
         let m : n ≡ size it = ap (λ x. x .1) q in
         record {
           fits = omega (arith, m, r, length-drop p (seen fs bs), length-seen fs 0 bs);
-          first = λ b. ap (λ x. Some (record { block = b; offset = p }, x)) w ∙ sym (ap (first-of b) i);
+          first = λ b. subst (λ (l : List (ℕ × Item)). Some (record { block = b; offset = p }, v) ≡ first-of b l) (sym i) (ap (λ x. Some (record { block = b; offset = p }, x)) w);
           others = ap (λ k. walk-from (seen fs bs) (p + k)) m ∙ sym (ap behind i);
         }
 
@@ -124,3 +165,8 @@ stop fs bs p e = go (stands (drop p (seen fs bs))) refl (e ∙ ap views.sized (s
 pub start : (fs : List Bool) (bs : List ℕ) (b : Bool) (p : ℕ) → b ≡ marked (seen fs bs) → p ≡ cond b 0 (length bs) → walk-from (seen fs bs) p ≡ walk (seen fs bs)
 start fs bs true p m e = ap (walk-from (seen fs bs)) e ∙ sym (walk-marked (seen fs bs) (sym m))
 start fs bs false p m e = walk-end fs bs p (omega arith) ∙ sym (walk-bare (seen fs bs) (sym m))
+
+-- what is handed out is one item less to come
+pub one-less : (b : ℕ) (xs : List (ℕ × Item)) (x : Place × View) → Some x ≡ first-of b xs → length xs ≡ length (behind xs) + 1
+one-less b [] x e = absurd (let z : _≡_ {A = ℕ} 0 1 = cc in omega arith)
+one-less b (y ∷ xs) x e = omega arith

@@ -4,18 +4,18 @@
 -- first-of       the first of them, with its place in this block
 -- behind         those behind the first
 -- found-shown    what the code's answer stands for
--- bears-marker   whether bytes begin with the marker
+-- bears-marker   whether bytes begin with the marker, by the fields of its header
 use mathlib.Core.Bool.{Bool}
 use mathlib.Core.List.{List, [], _∷_}
 use Prim.Native.Nat.{ℕ}
-use lib.Dec.{eqb, leb}
-use lib.ListN.{length, getD}
+use lib.Dec.{eqb}
 use Rattle.std.specs.declared.option.Option.{Option}
 use Rattle.std.specs.declared.option.Option.the-variants.{Some, None}
 use Rattle.flash.specs.declared.place.Place.{Place}
 use Rattle.nodes.specs.declared.reader.Reader.{Reader}
 use Rattle.nodes.specs.declared.reader.Found.{Found}
-use Rattle.nodes.specs.Fields.{all}
+use Rattle.nodes.specs.Fields.{le16, le32, all}
+use Rattle.nodes.specs.Headers.{begins}
 use Rattle.nodes.specs.Items.{Item}
 use Rattle.nodes.specs.Seen.{seen}
 use Rattle.nodes.specs.Views.{View, view, item-shown}
@@ -36,12 +36,5 @@ abbrev pub found-shown : Option Found → Option (Place × View)
 found-shown None = None
 found-shown (Some f) = Some (f .place, item-shown (f .item))
 
--- twelve bytes, each as in the marker
-abbrev pub marker-tests : List ℕ → List Bool
-marker-tests bs =
-    leb 12 (length bs) ∷ eqb (getD bs 0 0) 0x85 ∷ eqb (getD bs 1 0) 0x19 ∷ eqb (getD bs 2 0) 0x03 ∷ eqb (getD bs 3 0) 0x20
-    ∷ eqb (getD bs 4 0) 0x0C ∷ eqb (getD bs 5 0) 0x00 ∷ eqb (getD bs 6 0) 0x00 ∷ eqb (getD bs 7 0) 0x00 ∷ eqb (getD bs 8 0) 0xB1
-    ∷ eqb (getD bs 9 0) 0xB0 ∷ eqb (getD bs 10 0) 0x1E ∷ eqb (getD bs 11 0) 0xE4 ∷ []
-
 abbrev pub bears-marker : List ℕ → Bool
-bears-marker bs = all (marker-tests bs)
+bears-marker bs = all (begins bs ∷ eqb (le16 bs 2) 0x2003 ∷ eqb (le32 bs 4) 12 ∷ eqb (le32 bs 8) 0xE41EB0B1 ∷ [])

@@ -23,13 +23,54 @@ pub(crate) struct Standing<'a> {
     pub(crate) size: usize,
 }
 
-// The item of which this is the header, if it passes. `rest` are the block's bytes from the place `at` on.
-pub(crate) fn item_with<'a>(
+// The entry of which this is the header, if it passes. `rest` are the block's bytes from the place `at` on.
+fn entry_at<'a>(
     rest: &'a [u8],
     readable: &[bool],
     at: usize,
     header: Header<'_>,
 ) -> Option<Item<'a>>
+    requires fits { ⌜ at + length (now rest) < 2 ^ 64 ⌝ }
+    requires headed { ⌜ Headed (now readable) at (now rest) (header-shown header) ⌝ }
+    requires kind { ⌜ header .kind ≡ 0xE001 ⌝ }
+    ensures { λ r. ⌜ items-shown r ≡ viewed (stands (seen-from (now (readable .entry)) at (now (rest .entry)))) ⌝ }
+{
+    let length = header.totlen as usize;
+    if !reaches(rest, readable, at, length) {
+        return None;
+    }
+    let bytes = &rest[0..length];
+    match read_entry(bytes) {
+        Some(entry) => Some(Item::Entry { bytes, entry }),
+        None => None,
+    }
+}
+
+// The content of which this is the header, if it passes.
+fn content_at<'a>(
+    rest: &'a [u8],
+    readable: &[bool],
+    at: usize,
+    header: Header<'_>,
+) -> Option<Item<'a>>
+    requires fits { ⌜ at + length (now rest) < 2 ^ 64 ⌝ }
+    requires headed { ⌜ Headed (now readable) at (now rest) (header-shown header) ⌝ }
+    requires kind { ⌜ header .kind ≡ 0xE002 ⌝ }
+    ensures { λ r. ⌜ items-shown r ≡ viewed (stands (seen-from (now (readable .entry)) at (now (rest .entry)))) ⌝ }
+{
+    let length = header.totlen as usize;
+    if !reaches(rest, readable, at, length) {
+        return None;
+    }
+    let bytes = &rest[0..length];
+    match read_content(bytes) {
+        Some(content) => Some(Item::Content { bytes, content }),
+        None => None,
+    }
+}
+
+// The item of which this is the header, if it passes. Of any kind but entries and contents the header decides.
+fn item_at<'a>(rest: &'a [u8], readable: &[bool], at: usize, header: Header<'_>) -> Option<Item<'a>>
     requires fits { ⌜ at + length (now rest) < 2 ^ 64 ⌝ }
     requires headed { ⌜ Headed (now readable) at (now rest) (header-shown header) ⌝ }
     ensures { λ r. ⌜ items-shown r ≡ viewed (stands (seen-from (now (readable .entry)) at (now (rest .entry)))) ⌝ }
@@ -44,22 +85,8 @@ pub(crate) fn item_with<'a>(
     match kind {
         Kind::Marker => Some(Item::Marker { length }),
         Kind::Padding => Some(Item::Padding { length }),
-        Kind::Entry => {
-            if !reaches(rest, readable, at, length) {
-                return None;
-            }
-            let bytes = &rest[0..length];
-            let entry = read_entry(bytes)?;
-            Some(Item::Entry { bytes, entry })
-        }
-        Kind::Content => {
-            if !reaches(rest, readable, at, length) {
-                return None;
-            }
-            let bytes = &rest[0..length];
-            let content = read_content(bytes)?;
-            Some(Item::Content { bytes, content })
-        }
+        Kind::Entry => entry_at(rest, readable, at, header),
+        Kind::Content => content_at(rest, readable, at, header),
     }
 }
 
@@ -81,8 +108,12 @@ pub(crate) fn standing_at<'a>(rest: &'a [u8], readable: &[bool], at: usize) -> O
     if !reaches(rest, readable, at, 12) {
         return None;
     }
-    let header = passing_header(rest)?;
-    let item = item_with(rest, readable, at, header)?;
+    let Some(header) = passing_header(rest) else {
+        return None;
+    };
+    let Some(item) = item_at(rest, readable, at, header) else {
+        return None;
+    };
     Some(Standing {
         item,
         size: padded_len(header.totlen),

@@ -54,7 +54,9 @@ pub(crate) fn padded_len(totlen: u32) -> usize
 pub(crate) fn passing_header(bytes: &[u8]) -> Option<Header<'_>>
     ensures { λ r. ⌜ head-shown r ≡ passing (now (bytes .entry)) ⌝ }
 {
-    let header = read_header(bytes)?;
+    let Some(header) = read_header(bytes) else {
+        return None;
+    };
     if header.sum != crc32::sum_of(&bytes[..8]) || header.totlen < 12 {
         return None;
     }

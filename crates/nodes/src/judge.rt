@@ -30,8 +30,7 @@ fn is_dots(name: &[u8]) -> bool
     ensures { λ r. ⌜ r ≡ dots (now (name .entry)) ⌝ }
 {
     match name {
-        [b'.'] => true,
-        [b'.', b'.'] => true,
+        [b'.'] | [b'.', b'.'] => true,
         _ => false,
     }
 }
@@ -50,6 +49,7 @@ fn entry_fits(n: usize, e: &Entry<'_>) -> bool
     if n != 40 + e.name.len() || e.pino == 0 || e.version == 0 || !is_name(e.name) {
         return false;
     }
+    // a file or a directory has a number, a removal has none
     match e.dtype {
         8 | 4 => e.ino != 0,
         0 => e.ino == 0,
@@ -64,12 +64,14 @@ fn content_fits(n: usize, c: &Content<'_>) -> bool
     if n != 68 + c.payload.len() || c.ino == 0 || c.version == 0 {
         return false;
     }
+    // a regular file or a directory
     if c.mode != 33188 && c.mode != 16877 {
         return false;
     }
     if c.payload.len() != data_len(c) || (c.compr != 1 && c.dsize > 512) {
         return false;
     }
+    // a file has 65,536 bytes at most, and what is laid in it ends within
     c.isize <= 65536 && (c.dsize == 0 || c.offset as u64 + c.dsize as u64 <= c.isize as u64)
 }
 
@@ -102,7 +104,7 @@ fn entry_offence(n: usize, e: &Entry<'_>) -> Option<Refusal>
     }
 }
 
-// Why a mount refuses a content of n bytes, if it does: its compression has to be known, and its fields as they should.
+// Why a mount refuses a content of n bytes, if it does: its compression has to be known, and its fields have to fit.
 fn content_offence(n: usize, c: &Content<'_>) -> Option<Refusal>
     ensures { λ r. ⌜ r ≡ content-offence n (content-shown (now (c .entry))) ⌝ }
 {

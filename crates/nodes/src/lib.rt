@@ -1,7 +1,5 @@
-// What stands on an erase block: JFFS2 items. Start reading at `reader`, which hands them out one by one; specs/Walk.antt
-// says which they are.
-ghost use Rattle.nodes.specs.Shown.{entry-shown, content-shown};
-
+// What stands on an erase block: JFFS2 items. Start reading at `walk`, where a reader hands them out one by one;
+// specs/Walk.antt says which they are. `judge` says which of them a mount refuses.
 pub(crate) mod bytes;
 pub(crate) mod decide;
 pub mod header;

@@ -5,32 +5,22 @@ ghost use Rattle.nodes.specs.Seen.{seen};
 ghost use Rattle.nodes.specs.Walk.{marked, walk};
 ghost use Rattle.nodes.specs.Reading.{rest, first-of, behind, found-shown, bears-marker};
 use crate::decide::standing_at;
+use crate::header::read_header;
+use crate::kind::Kind;
 use crate::readable::reaches;
 use crate::reader::Found;
 use crate::reader::Reader;
 use flash::place::Place;
 
-// Whether bytes begin with the marker.
+// Whether bytes begin with the marker: its header, of which the sum is known.
 fn has_marker(bytes: &[u8]) -> bool
     ensures { λ r. ⌜ r ≡ bears-marker (now (bytes .entry)) ⌝ }
 {
-    match bytes {
-        [
-            0x85,
-            0x19,
-            0x03,
-            0x20,
-            0x0c,
-            0x00,
-            0x00,
-            0x00,
-            0xb1,
-            0xb0,
-            0x1e,
-            0xe4,
-            ..
-        ] => true,
-        _ => false,
+    match read_header(bytes) {
+        Some(header) => {
+            header.kind == Kind::Marker.value() && header.totlen == 12 && header.sum == 0xe41eb0b1
+        }
+        None => false,
     }
 }
 
@@ -69,7 +59,9 @@ impl<'a> Reader<'a> {
         ensures readable { λ _. ⌜ now (now (self .exit) .readable) ≡ now (now (self .entry) .readable) ⌝ }
     {
         let at = self.at;
-        let standing = standing_at(&self.bytes[at..], self.readable, at)?;
+        let Some(standing) = standing_at(&self.bytes[at..], self.readable, at) else {
+            return None;
+        };
         self.at = at + standing.size;
         Some(Found {
             place: Place {

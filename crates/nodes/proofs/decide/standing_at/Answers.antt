@@ -21,12 +21,11 @@ pub returns-then-not-reaches-2 : need.returns-then-not-reaches-2
 returns-then-not-reaches-2 c =
     none-head (c .args .readable .now) (c .args .at) (c .args .rest .now) (sym (c .if-not-reaches .ensures tt)) (ne-eqb _ 0 (λ e. c .if-le-u32-eq0 .left (c .le-u32 .ensures ∙ e))) (sym (c .if-not-reaches-2 .ensures tt))
 
-pub returns-in-Break-header : need.returns-in-Break-header
-returns-in-Break-header c =
-    rw (c .from-residual .ensures)
-    (none-sound (c .args .readable .now) (c .args .at) (c .args .rest .now) (sym (c .if-not-reaches-2 .ensures tt)) (ne-eqb _ 0 (λ e. c .if-le-u32-eq0 .left (c .le-u32 .ensures ∙ e))) (c .in-Break-header .ensures tt))
+pub returns-in-rest : need.returns-in-rest
+returns-in-rest c =
+    none-sound (c .args .readable .now) (c .args .at) (c .args .rest .now) (sym (c .if-not-reaches-2 .ensures tt)) (ne-eqb _ 0 (λ e. c .if-le-u32-eq0 .left (c .le-u32 .ensures ∙ e))) (c .in-rest .ensures tt)
 
 pub returns : need.returns
 returns c =
-    some-sized (c .args .readable .now) (c .args .at) (c .args .rest .now) (sym (c .if-not-reaches-2 .ensures tt)) (ne-eqb _ 0 (λ e. c .if-le-u32-eq0 .left (c .le-u32 .ensures ∙ e))) _ (c .padded-len .result) (c .in-Continue-item .ensures tt)
-    (c .padded-len .ensures ∙ ap (λ h. padded (h .totlen)) (passing-some (c .args .rest .now) _ (c .in-Continue-header .ensures tt) .1))
+    some-sized (c .args .readable .now) (c .args .at) (c .args .rest .now) (sym (c .if-not-reaches-2 .ensures tt)) (ne-eqb _ 0 (λ e. c .if-le-u32-eq0 .left (c .le-u32 .ensures ∙ e))) _ (c .padded-len .result) (c .in-Some-item-at .ensures tt)
+    (c .padded-len .ensures ∙ ap (λ h. padded (h .totlen)) (passing-some (c .args .rest .now) _ (c .in-Some .ensures tt) .1))
