@@ -65,7 +65,7 @@ nor-sane mem s = record {
     long b h = length-map (part-of SIZE mem b) byte ∙ full b h
 
     whole : (b i j : ℕ) → b < min (length mem / SIZE) 16 → i < SIZE → j < SIZE → i / 4 ≡ j / 4
-      → getD (cells (part-of SIZE mem b)) i lost ≡ lost → getD (cells (part-of SIZE mem b)) j lost ≡ lost
+        → getD (cells (part-of SIZE mem b)) i lost ≡ lost → getD (cells (part-of SIZE mem b)) j lost ≡ lost
     whole b i j there h k e l =
         let r = getD-cells (part-of SIZE mem b) i (omega (arith, full b there)) in
         absurd (not-lost (getD (part-of SIZE mem b) i 0) (sym r ∙ l))
