@@ -1,7 +1,7 @@
 // The sum that guards every header, node, name and run of data: CRC-32 with its bits reflected, polynomial 0xEDB88320,
 // starting at 0 and not inverted at the end. Start reading at `sum_of`; specs/Sum.antt has the sum bit by bit.
 ghost use mathlib.Core.Path.{_≡_};
-ghost use Prim.Native.Nat.{ℕ, _<_};
+ghost use Prim.Native.Nat.{_/_, _<_};
 ghost use Rattle.crc32.specs.Sum.{rounds, fed, sum};
 ghost use Rattle.crc32.specs.Table.{Has-rounds};
 
@@ -272,12 +272,19 @@ fn entry(table: &[u32; 256], k: usize) -> u32
     table[k]
 }
 
+// A sum without its low byte.
+fn above_byte(c: u32) -> u32
+    ensures { λ r. ⌜ r ≡ c / 256 ⌝ }
+{
+    c >> 8
+}
+
 // The sum so far takes one byte in: the low byte by the table, the others shifted.
 fn step(c: u32, b: u8) -> u32
     ensures { λ r. ⌜ r ≡ fed c b ⌝ }
 {
     let k = (c ^ b as u32) & 0xff;
-    entry(&TABLE, k as usize) ^ (c >> 8)
+    entry(&TABLE, k as usize) ^ above_byte(c)
 }
 
 // The sum of the bytes.

@@ -1,7 +1,7 @@
 -- What the code of a NOR chip does to its memory is what is meant.
 use mathlib.Core.Path.{_≡_, refl, sym, _∙_, ap}
 use mathlib.Core.Bool.{Bool, true, false, cond}
-use mathlib.Core.List.{List, [], _∷_, _++_}
+use mathlib.Core.List.{List, _++_}
 use Prim.Native.Nat.{ℕ, _+_, _-_, _*_, _/_, _<_, _≤_}
 use native.Mathlib.Omega.{arith}
 use lib.ListN.{length, take, drop, replicate, length-take, length-drop, length-append, length-map, length-replicate}
@@ -10,7 +10,6 @@ use borrow.Rule.Slice.PartMut.{putMid}
 use Rattle.std.proofs.shelf.Lists.{drop-drop, take-take, drop-take}
 use Rattle.std.proofs.shelf.Tests.{ltb-true}
 use Rattle.std.specs.declared.option.Option.the-variants.{Some, None}
-use Rattle.std.specs.declared.result.Result.{Result}
 use Rattle.std.specs.declared.result.Result.the-variants.{Ok, Err}
 use Rattle.flash.specs.declared.refusal.Refusal.{Refusal}
 use Rattle.flash.specs.declared.refusal.Refusal.the-variants.{NoPower}
@@ -20,8 +19,8 @@ use Rattle.devices.specs.declared.supply.Cut.{Cut}
 use Rattle.devices.specs.declared.supply.Supply.{Supply}
 use Rattle.devices.specs.declared.supply.Supply.the-variants.{Steady, Armed, Off}
 use Rattle.devices.specs.Steps.{spent}
-use Rattle.devices.specs.Memory.{ored, Outcome, outcome}
-use Rattle.devices.specs.Nor.{SIZE, nor, cut-run, laid, wiped, unless, nor-program, nor-erase}
+use Rattle.devices.specs.Memory.{ored, outcome}
+use Rattle.devices.specs.Nor.{SIZE, nor, cut-run, nor-program, nor-erase}
 
 not-err : {X : Type 0} (x : X) (c : Cut) → Err c ≡ Ok x → ⊥
 not-err x c h = let z : _≡_ {A = ℕ} 0 1 = cc in omega arith

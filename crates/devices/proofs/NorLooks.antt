@@ -1,8 +1,8 @@
 -- What a NOR chip answers to a look and to a read.
 use mathlib.Core.Path.{_≡_, refl, sym, _∙_, ap}
-use mathlib.Core.Bool.{true, not}
+use mathlib.Core.Bool.{true}
 use mathlib.Core.List.{List, [], _∷_}
-use Prim.Native.Nat.{ℕ, zero, suc, _+_, _-_, _*_, _≤_}
+use Prim.Native.Nat.{ℕ, _+_, _-_, _*_, _≤_}
 use native.Mathlib.Omega.{arith}
 use lib.ListN.{length, take, drop}
 use Rattle.std.proofs.shelf.Lists.{drop-drop, take-take, drop-take}
@@ -12,8 +12,8 @@ use Rattle.flash.specs.declared.refusal.Refusal.{Refusal}
 use Rattle.flash.specs.Cells.{cells}
 use Rattle.flash.specs.Refused.{place-refusal, readable, part}
 use Rattle.flash.specs.Rules as rules
-use Rattle.flash.specs.Rules.{Fetched, mark-answer, answered}
-use Rattle.flash.proofs.Refusals.{Inside, place-inside, read-by-place, read-past-place}
+use Rattle.flash.specs.Rules.{Fetched, mark-answer}
+use Rattle.flash.proofs.Refusals.{place-inside, read-by-place, read-past-place}
 use Rattle.devices.specs.declared.supply.Supply.{Supply}
 use Rattle.devices.specs.Memory.{part-of}
 use Rattle.devices.specs.Nor.{SIZE, mark-of, nor}

@@ -1,16 +1,16 @@
 -- What a NOR chip means: it is sane at all times, and new bytes in one block change that block alone.
 use mathlib.Core.Path.{_≡_, refl, sym, _∙_, ap}
-use mathlib.Core.Bool.{Bool, true, false, cond}
-use mathlib.Core.List.{List, [], _∷_, _++_, map}
+use mathlib.Core.Bool.{cond}
+use mathlib.Core.List.{List, [], _∷_}
 use Prim.Native.Nat.{ℕ, zero, suc, _+_, _-_, _*_, _/_, _%_, _^_, _<_, _≤_, min}
 use native.Mathlib.Omega.{arith}
-use lib.ListN.{length, take, drop, replicate, getD, length-map}
-use Rattle.flash.specs.Cells.{Cell, byte, lost, cells, over, blank}
+use lib.ListN.{length, getD, length-map}
+use Rattle.flash.specs.Cells.{Cell, byte, lost, cells, over}
 use Rattle.flash.specs.Meaning.{Meaning, Sane, Power, with-at}
 use Rattle.flash.proofs.Over.{by-place, over-length}
 use Rattle.devices.specs.declared.supply.Supply.{Supply}
 use Rattle.devices.specs.Steps.{power-of}
-use Rattle.devices.specs.Memory.{part-of, used}
+use Rattle.devices.specs.Memory.{part-of}
 use Rattle.devices.specs.Nor.{SIZE, mark-of, nor}
 use Rattle.devices.proofs.Bytes.{used-le}
 use Rattle.devices.proofs.Blocks.{part-full, part-other, part-same}

@@ -1,25 +1,25 @@
 -- The calls of a NOR chip keep the rules of a flash.
-use mathlib.Core.Path.{_≡_, refl, sym, _∙_, ap, subst}
+use mathlib.Core.Path.{_≡_, refl, sym, _∙_, ap}
 use mathlib.Core.Bool.{Bool, true, false, cond}
-use mathlib.Core.List.{List, [], _∷_, _++_, map, map-append, append-assoc, append-nil}
-use Prim.Native.Nat.{ℕ, zero, suc, _+_, _-_, _*_, _/_, _%_, _<_, _≤_, min}
+use mathlib.Core.List.{List, [], _∷_, _++_, map-append, append-assoc, append-nil}
+use Prim.Native.Nat.{ℕ, zero, suc, _+_, _-_, _*_, _/_, _%_, _≤_}
 use native.Mathlib.Nat.{add-zero}
 use native.Mathlib.Omega.{arith}
 use lib.Dec.{ltb}
-use lib.ListN.{length, take, drop, replicate, getD, length-take, length-drop, length-append, length-map, length-replicate, take-append-drop}
-use Rattle.std.proofs.shelf.Lists.{take-at, drop-all, drop-drop, take-take, drop-take}
+use lib.ListN.{length, take, drop, replicate, length-take, length-drop, length-append, length-map, length-replicate, take-append-drop}
+use Rattle.std.proofs.shelf.Lists.{take-at, drop-all}
 use Rattle.std.specs.declared.option.Option.{Option}
 use Rattle.std.specs.declared.option.Option.the-variants.{Some, None}
 use Rattle.std.specs.declared.result.Result.{Result}
 use Rattle.std.specs.declared.result.Result.the-variants.{Ok, Err}
 use Rattle.flash.specs.declared.refusal.Refusal.{Refusal}
 use Rattle.flash.specs.declared.refusal.Refusal.the-variants.{NoPower}
-use Rattle.flash.specs.Cells.{Cell, byte, lost, cells, blank, over}
-use Rattle.flash.specs.Meaning.{Meaning, Power, steady, armed, off, with-at}
-use Rattle.flash.specs.Refused.{is-off, program-refusal, erase-refusal, arm-refusal}
+use Rattle.flash.specs.Cells.{Cell, byte, cells, blank, over}
+use Rattle.flash.specs.Meaning.{armed, off, with-at}
+use Rattle.flash.specs.Refused.{program-refusal, erase-refusal, arm-refusal}
 use Rattle.flash.specs.Rules as rules
-use Rattle.flash.specs.Rules.{programmed, broken, erased, powered, restarted, Programmed, Erased, Restarted, Torn, Passed, Failed}
-use Rattle.flash.proofs.Refusals.{Accepted, accepted, Inside, place-inside}
+use Rattle.flash.specs.Rules.{programmed, broken, erased, powered, restarted, Programmed, Erased, Restarted, Passed, Failed}
+use Rattle.flash.proofs.Refusals.{accepted, place-inside}
 use Rattle.devices.specs.declared.supply.Cut.{Cut}
 use Rattle.devices.specs.declared.supply.Supply.{Supply}
 use Rattle.devices.specs.declared.supply.Supply.the-variants.{Steady, Armed, Off}

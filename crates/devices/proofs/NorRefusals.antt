@@ -1,17 +1,16 @@
 -- When a NOR chip refuses a call.
 use mathlib.Core.Path.{_≡_, refl, sym, _∙_, ap}
-use mathlib.Core.Bool.{Bool, true, false, cond, not}
-use mathlib.Core.List.{List, [], _∷_}
-use Prim.Native.Nat.{ℕ, _+_, _-_, _*_, _/_, _%_, _<_, _≤_, min}
+use mathlib.Core.Bool.{true, false}
+use mathlib.Core.List.{List}
+use Prim.Native.Nat.{ℕ, _+_, _-_, _*_, _/_, _%_, _<_, _≤_}
 use native.Mathlib.Omega.{arith}
-use lib.Dec.{eqb, ltb}
 use lib.ListN.{length, take, drop, length-take}
 use Rattle.std.proofs.shelf.Tests.{ne-eqb, eq-eqb, lt-ltb, le-ltb}
 use Rattle.std.specs.declared.option.Option.the-variants.{Some, None}
 use Rattle.flash.specs.declared.refusal.Refusal.{Refusal}
 use Rattle.flash.specs.declared.refusal.Refusal.the-variants.{NoPower, Outside, NotPages, BelowMark}
-use Rattle.flash.specs.Refused.{is-off, first, cuts-pages, place-refusal, program-refusal, other-held}
-use Rattle.flash.proofs.Refusals.{Inside, place-inside, Accepted, accepted, program-by-place, program-past-place, none-other, of-program}
+use Rattle.flash.specs.Refused.{is-off, first, place-refusal, program-refusal, other-held}
+use Rattle.flash.proofs.Refusals.{place-inside, program-by-place, program-past-place, none-other, of-program}
 use Rattle.devices.specs.declared.supply.Supply.{Supply}
 use Rattle.devices.specs.declared.supply.Supply.the-variants.{Steady, Armed, Off}
 use Rattle.devices.specs.Steps.{power-of}

@@ -6,8 +6,8 @@
 -- outcome    what a call answers, and the memory and the supply after it
 -- Within     where bytes of a block lie in the memory
 use mathlib.Core.Path.{_≡_}
-use mathlib.Core.Bool.{Bool, cond}
-use mathlib.Core.List.{List, [], _∷_, _++_, map}
+use mathlib.Core.Bool.{cond}
+use mathlib.Core.List.{List, [], _∷_, map}
 use Prim.Native.Nat.{ℕ, zero, suc, _+_, _*_, _≤_}
 use lib.Bits.{bitOr}
 use lib.Dec.{eqb}

@@ -5,8 +5,8 @@
 -- nor-erase, nor-arm   likewise
 -- holds-blocks    whether so many bytes are 4 to 16 whole blocks
 use mathlib.Core.Bool.{Bool, true, false, cond}
-use mathlib.Core.List.{List, [], _∷_, _++_}
-use Prim.Native.Nat.{ℕ, zero, suc, _+_, _-_, _*_, _/_, _%_, min}
+use mathlib.Core.List.{List, _++_}
+use Prim.Native.Nat.{ℕ, _+_, _-_, _*_, _/_, _%_, min}
 use lib.Dec.{eqb, ltb, leb}
 use lib.ListN.{length, take, drop, replicate}
 use Rattle.std.specs.declared.option.Option.{Option}
@@ -20,7 +20,7 @@ use Rattle.flash.specs.Meaning.{Meaning}
 use Rattle.flash.specs.Refused.{program-refusal, erase-refusal}
 use Rattle.devices.specs.declared.supply.Cut.{Cut}
 use Rattle.devices.specs.declared.supply.Supply.{Supply}
-use Rattle.devices.specs.declared.supply.Supply.the-variants.{Steady, Armed, Off}
+use Rattle.devices.specs.declared.supply.Supply.the-variants.{Off}
 use Rattle.devices.specs.Steps.{spent, arming, power-of}
 use Rattle.devices.specs.Memory.{part-of, used, ored, Outcome, outcome}
 

@@ -1,7 +1,7 @@
 // What programs, erases and failures do to the bytes of a device.
 ghost use mathlib.Core.Path.{_≡_};
 ghost use mathlib.Core.List.{_++_};
-ghost use Prim.Native.Nat.{ℕ, _+_, _-_, _≤_};
+ghost use Prim.Native.Nat.{_+_, _-_, _≤_};
 ghost use lib.ListN.{length, replicate, take, drop};
 ghost use Rattle.devices.specs.Memory.{ored, used};
 

@@ -1,8 +1,8 @@
 // A NOR chip in the caller's memory: 4 to 16 blocks of 4,096 bytes, programmed in words of four bytes that settle at once.
 ghost use mathlib.Core.Path.{_≡_};
 ghost use mathlib.Core.Bool.{true, false};
-ghost use Prim.Native.Nat.{ℕ, _+_, _*_, _/_, _<_, _≤_, min};
-ghost use lib.ListN.{length, take, drop};
+ghost use Prim.Native.Nat.{_+_, _*_, _/_, _<_, _≤_, min};
+ghost use lib.ListN.{length};
 ghost use Rattle.std.specs.Results.{Cases};
 ghost use Rattle.flash.specs.Refused.{place-refusal, program-refusal};
 ghost use Rattle.flash.specs.Meaning.{Sane};

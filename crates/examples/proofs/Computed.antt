@@ -1,7 +1,7 @@
 -- The worked examples, computed.
 use mathlib.Core.Path.{refl}
 use Rattle.crc32.specs.Sum.{sum, sum-from, fed, rounds}
-use Rattle.encode.specs.Encode.{head, head8, padding, filling}
+use Rattle.encode.specs.Encode.{head, head8, filling}
 use Rattle.examples.specs.Worked.{Worked}
 
 pub worked : Worked

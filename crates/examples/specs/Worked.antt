@@ -2,8 +2,7 @@
 --
 -- Worked   all of them; a crate that brings rules of its own adds its examples here
 use mathlib.Core.Path.{_≡_}
-use mathlib.Core.List.{List, [], _∷_}
-use Prim.Native.Nat.{ℕ}
+use mathlib.Core.List.{[], _∷_}
 use Rattle.crc32.specs.Sum.{sum}
 use Rattle.nodes.specs.Kinds.{kind-value}
 use Rattle.nodes.specs.declared.kind.Kind.the-variants.{Marker}

@@ -1,17 +1,17 @@
 -- What it says that a call is refused, or not.
-use mathlib.Core.Path.{_≡_, refl, sym, _∙_, ap}
+use mathlib.Core.Path.{_≡_, refl, sym}
 use mathlib.Core.Bool.{Bool, true, false, cond, not}
 use mathlib.Core.List.{List, [], _∷_, _++_}
-use mathlib.Core.Logic.{_⊎_, inl, inr, ⊎-elim}
+use mathlib.Core.Logic.{_⊎_, ⊎-elim}
 use Prim.Native.Nat.{ℕ, zero, suc, _+_, _%_, _<_, _≤_}
 use native.Mathlib.Omega.{arith}
 use lib.Dec.{eqb, ltb}
-use Rattle.std.proofs.shelf.Tests.{cases-lt, cases-eq, ltb-true, ltb-false, eqb-true, eq-eqb, lt-ltb, le-ltb, ne-eqb, true≢false}
+use Rattle.std.proofs.shelf.Tests.{cases-lt, cases-eq, ltb-false, eqb-true, eq-eqb, lt-ltb, le-ltb, ne-eqb, true≢false}
 use Rattle.std.specs.declared.option.Option.{Option}
 use Rattle.std.specs.declared.option.Option.the-variants.{Some, None}
 use Rattle.std.specs.declared.result.Result.the-variants.{Ok, Err}
 use Rattle.flash.specs.declared.refusal.Refusal.{Refusal}
-use Rattle.flash.specs.declared.refusal.Refusal.the-variants.{NoPower, Outside, NotPages, BelowMark, OtherHeld, Unreadable}
+use Rattle.flash.specs.declared.refusal.Refusal.the-variants.{NotPages, BelowMark, OtherHeld, Unreadable}
 use Rattle.flash.specs.Cells.{Cell, byte, lost}
 use Rattle.flash.specs.Meaning.{Meaning}
 use Rattle.flash.specs.Rules.{answered}

@@ -12,7 +12,7 @@
 --            that a layer which moves blocks about can compose them
 -- Sane       what holds of every flash at all times
 use mathlib.Core.Path.{_≡_}
-use mathlib.Core.Bool.{Bool, true, false, cond}
+use mathlib.Core.Bool.{cond}
 use mathlib.Core.List.{List, _++_}
 use Prim.Native.Nat.{ℕ, _*_, _/_, _%_, _^_, _<_, _≤_}
 use lib.Dec.{eqb}

@@ -20,7 +20,7 @@ use Rattle.std.specs.declared.result.Result.the-variants.{Ok, Err}
 use Rattle.flash.specs.declared.refusal.Refusal.{Refusal}
 use Rattle.flash.specs.declared.refusal.Refusal.the-variants.{NoPower}
 use Rattle.flash.specs.declared.place.Shape.{Shape}
-use Rattle.flash.specs.Cells.{Cell, byte, lost, cells, blank, over}
+use Rattle.flash.specs.Cells.{Cell, lost, cells, blank, over}
 use Rattle.flash.specs.Meaning.{Meaning, Power, steady, armed, off, with-at, mixed, shown-at, settled-at, batch-end}
 use Rattle.flash.specs.Refused.{place-refusal, program-refusal, erase-refusal, read-refusal, arm-refusal, part}
 

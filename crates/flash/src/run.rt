@@ -2,7 +2,7 @@
 ghost use mathlib.Core.Path.{_≡_};
 ghost use mathlib.Core.Bool.{true};
 ghost use lib.Dec.{eqb};
-ghost use Rattle.flash.specs.Meaning.{Meaning, Sane};
+ghost use Rattle.flash.specs.Meaning.{Sane};
 ghost use Rattle.flash.specs.Ran.{Ran, Did, Composes, program, erase};
 ghost use Rattle.flash.specs.Settling.{Nothing-held};
 ghost use Rattle.flash.specs.Shown.{op-shown, ops-shown};

@@ -1,13 +1,13 @@
 -- The cells of a block, from the bytes as they were read and the flags of its pages.
-use mathlib.Core.Path.{_≡_, refl, sym, ap, subst, _∙_}
+use mathlib.Core.Path.{_≡_, refl, ap, _∙_}
 use mathlib.Core.Bool.{Bool, true, false, cond}
 use mathlib.Core.List.{List, [], _∷_}
 use Prim.Native.Nat.{ℕ, zero, suc, _+_, _*_, _/_, _≤_, _<_}
 use native.Mathlib.Omega.{arith}
 use lib.ListN.{length, getD, take, drop}
 use Rattle.std.proofs.shelf.Tests.{cond-true, cond-false, cases-lt, true≢false, false≢true}
-use mathlib.Core.Logic.{inl, inr, ⊎-elim}
-use Rattle.flash.specs.Cells.{Cell, byte, lost, cells, front}
+use mathlib.Core.Logic.{⊎-elim}
+use Rattle.flash.specs.Cells.{byte, lost, cells, front}
 use Rattle.nodes.specs.Seen.{seen-from, readable}
 
 pub length-seen : (fs : List Bool) (at : ℕ) (bs : List ℕ) → length (seen-from fs at bs) ≡ length bs

@@ -1,11 +1,11 @@
 -- What stands at a place, as the reader decides it step by step from the bytes of the block from there on.
-use mathlib.Core.Path.{_≡_, refl, sym, ap, subst, _∙_}
+use mathlib.Core.Path.{_≡_, refl, sym, ap, _∙_}
 use mathlib.Core.Bool.{Bool, true, false, cond}
-use mathlib.Core.List.{List, [], _∷_}
-use Prim.Native.Nat.{ℕ, _+_, _≤_, _<_}
+use mathlib.Core.List.{List}
+use Prim.Native.Nat.{ℕ, _≤_, _<_}
 use native.Mathlib.Omega.{arith}
 use lib.Dec.{eqb, leb}
-use lib.ListN.{length, getD, take, drop, length-take}
+use lib.ListN.{length, take, length-take}
 use Rattle.std.proofs.shelf.Lists.{length-take-le}
 use Rattle.std.proofs.shelf.Tests.{leb-true, leb-false, le-leb, lt-leb, eq-eqb, cond-true, cond-false}
 use Rattle.std.specs.declared.option.Option.{Option}
@@ -13,7 +13,7 @@ use Rattle.std.specs.declared.option.Option.the-variants.{Some, None}
 use Rattle.flash.specs.Cells.{front}
 use Rattle.nodes.specs.declared.kind.Kind.the-variants as kinds
 use Rattle.nodes.specs.Kinds.{kind-with}
-use Rattle.nodes.specs.Fields.{le16, le32, padded, all}
+use Rattle.nodes.specs.Fields.{le32, padded, all}
 use Rattle.nodes.specs.Items.{Item, kind, totlen, is-word, reach, header, entry, content, offered, stands, size}
 use Rattle.nodes.specs.Records.{Entry, Content, read-entry, read-content}
 use Rattle.nodes.specs.Headers.{Head, head, passing, Headed}

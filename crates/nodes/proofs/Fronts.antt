@@ -1,18 +1,16 @@
 -- What stands at a place of a block, decided by its bytes from there on and by how many of them can be read.
-use mathlib.Core.Path.{_≡_, refl, sym, ap, subst, _∙_}
+use mathlib.Core.Path.{_≡_, refl, sym, ap, _∙_}
 use mathlib.Core.Bool.{Bool, true, false, cond}
-use mathlib.Core.List.{List, [], _∷_}
-use Prim.Native.Nat.{ℕ, zero, suc, _+_, _≤_, _<_, max}
+use mathlib.Core.List.{List}
+use Prim.Native.Nat.{ℕ, _+_, _≤_, _<_, max}
 use native.Mathlib.Omega.{arith}
 use lib.Dec.{eqb, leb}
-use lib.ListN.{length, getD, take, drop, length-take}
+use lib.ListN.{length, take, length-take}
 use Rattle.std.proofs.shelf.Lists.{getD-take, length-take-le, take-take}
-use Rattle.std.proofs.shelf.Tests.{leb-true, le-leb, lt-leb, eq-eqb, ne-eqb, cond-true, cond-false}
-use Rattle.std.specs.declared.option.Option.{Option}
+use Rattle.std.proofs.shelf.Tests.{leb-true, le-leb, lt-leb, cond-true, cond-false}
 use Rattle.std.specs.declared.option.Option.the-variants.{Some, None}
-use Rattle.crc32.specs.Sum.{sum}
-use Rattle.nodes.specs.Fields.{le16, le32, padded, all}
-use Rattle.nodes.specs.Items.{Item, kind, totlen, is-word, reach, header, entry, content, passes, offered, size}
+use Rattle.nodes.specs.Fields.{le16, le32, all}
+use Rattle.nodes.specs.Items.{Item, kind, totlen, is-word, reach, header, entry, content, passes, offered}
 use Rattle.nodes.proofs.Standing.{reach-word, reach-more, reach-least, at-all}
 
 -- fields within the first k bytes

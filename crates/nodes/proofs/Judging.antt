@@ -1,25 +1,24 @@
 -- Names and offences, test by test.
-use mathlib.Core.Path.{_≡_, refl, sym, ap, subst, _∙_}
+use mathlib.Core.Path.{_≡_, refl, sym, ap, _∙_}
 use mathlib.Core.Bool.{Bool, true, false, cond}
-use mathlib.Core.List.{List, [], _∷_}
+use mathlib.Core.List.{List}
 use mathlib.Core.Logic.{_⊎_, inl, inr, ⊎-elim}
-use Prim.Native.Nat.{ℕ, _+_, _≤_, _<_, max}
+use Prim.Native.Nat.{ℕ, _+_, _<_, max}
 use native.Mathlib.Omega.{arith}
 use lib.Dec.{eqb, leb}
 use lib.ListN.{length, getD, drop}
 use Rattle.std.proofs.shelf.Lists.{at-drop-more}
-use Rattle.std.proofs.shelf.Tests.{eq-eqb, eqb-true, ne-eqb, leb-true, cond-true, cond-false}
+use Rattle.std.proofs.shelf.Tests.{eq-eqb, eqb-true, ne-eqb, leb-true, cond-false}
 use Rattle.std.specs.declared.option.Option.{Option}
 use Rattle.std.specs.declared.option.Option.the-variants.{Some, None}
 use Rattle.flash.specs.Cells.{Cell}
 use Rattle.flash.specs.declared.refusal.Refusal.{Refusal}
 use Rattle.flash.specs.declared.refusal.Refusal.the-variants as refusal
-use Rattle.nodes.specs.Fields.{all}
 use Rattle.nodes.specs.Items.{Item, kind, totlen, is-word, header, reach, stands}
 use Rattle.nodes.specs.Records.{read-entry, read-content}
 use Rattle.nodes.specs.Offences.{either, plain, entry-offence, content-offence, offence, offence-of, Judged}
 use Rattle.nodes.specs.Views.{View, zero-word, marker-of, padding-of, unknown-of, entry-of, content-of, view}
-use Rattle.nodes.proofs.Standing.{Reads, stands-reads, headed, at-all}
+use Rattle.nodes.proofs.Standing.{stands-reads, headed, at-all}
 
 stopped : (a b t : Bool) → (a ≡ true) ⊎ (b ≡ true) → false ≡ cond (either a b) false t
 stopped true b t h = refl

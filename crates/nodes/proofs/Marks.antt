@@ -1,21 +1,20 @@
 -- Cells that are alike, and the marker at the start of a block.
-use mathlib.Core.Path.{_≡_, refl, sym, ap, subst, _∙_}
+use mathlib.Core.Path.{_≡_, refl, sym, ap, _∙_}
 use mathlib.Core.Bool.{Bool, true, false, cond}
-use mathlib.Core.List.{List, [], _∷_, _++_, map}
+use mathlib.Core.List.{List, [], _∷_, _++_}
 use Prim.Native.Nat.{ℕ, zero, suc, _+_, _≤_}
 use native.Mathlib.Omega.{arith}
-use lib.Dec.{eqb, leb}
+use lib.Dec.{eqb}
 use lib.ListN.{length, take, drop, length-take}
 use Rattle.std.proofs.shelf.Lists.{take-append-drop}
 use Rattle.std.proofs.shelf.Tests.{eqb-true, eq-eqb, le-leb, cond-true, cond-false}
-use Rattle.std.specs.declared.option.Option.{Option}
-use Rattle.std.specs.declared.option.Option.the-variants.{Some, None}
-use Rattle.crc32.specs.Sum.{sum, sum-from, fed, rounds, round}
+use Rattle.std.specs.declared.option.Option.the-variants.{Some}
+use Rattle.crc32.specs.Sum.{sum, sum-from, fed, rounds}
 use Rattle.flash.specs.Cells.{Cell, byte, lost, cells}
 use Rattle.nodes.specs.Fields.{le16, le32}
-use Rattle.nodes.specs.Items.{Item, stands, size, reach, passes}
+use Rattle.nodes.specs.Items.{stands, size, reach, passes}
 use Rattle.nodes.specs.Walk.{walk-from, walk, marked, marker, alike}
-use Rattle.nodes.proofs.Standing.{Reads, reads-stands}
+use Rattle.nodes.proofs.Standing.{reads-stands}
 
 pub alike-take : (n : ℕ) (xs ys : List Cell) → alike n xs ys ≡ true → take n xs ≡ take n ys
 unfolding alike

@@ -5,15 +5,15 @@ use mathlib.Core.List.{List, [], _∷_, _++_}
 use Prim.Native.Nat.{ℕ, _+_, _-_, _*_, _≤_, _<_}
 use native.Mathlib.Omega.{arith}
 use lib.Dec.{eqb, leb}
-use lib.ListN.{length, getD, take, drop, length-drop, length-take}
+use lib.ListN.{length, getD, take, drop, length-drop}
 use Rattle.std.proofs.shelf.Equals.{text-from-reads}
-use Rattle.std.proofs.shelf.Lists.{take-rest, take-take, take-at, take-append-drop, length-take-le, getD-take, drop-all}
+use Rattle.std.proofs.shelf.Lists.{take-rest, take-take, take-append-drop, length-take-le, getD-take}
 use Rattle.std.proofs.shelf.Tests.{leb-true, le-leb, eqb-true, both-ways}
 use Rattle.std.specs.declared.option.Option.{Option}
 use Rattle.std.specs.declared.option.Option.the-variants.{Some, None}
 use Rattle.flash.specs.declared.place.Place.{Place}
-use Rattle.flash.specs.Cells.{Cell, byte, lost, cells, front}
-use Rattle.nodes.specs.Fields.{le16, le32, all}
+use Rattle.flash.specs.Cells.{Cell, cells, front}
+use Rattle.nodes.specs.Fields.{le16, le32}
 use Rattle.nodes.specs.Headers.{begins}
 use Rattle.nodes.specs.Items.{Item, stands, size}
 use Rattle.nodes.specs.Seen.{seen, seen-from, reaching}

@@ -1,18 +1,16 @@
 -- Entries and contents, field by field.
-use mathlib.Core.Path.{_≡_, refl, sym, ap, _∙_}
-use mathlib.Core.Bool.{Bool, true, false, cond}
+use mathlib.Core.Path.{_≡_, sym, ap, _∙_}
+use mathlib.Core.Bool.{Bool, true}
 use mathlib.Core.List.{List, [], _∷_}
 use Prim.Native.Nat.{ℕ, _+_, _-_, _≤_}
 use native.Mathlib.Omega.{arith}
-use lib.Dec.{eqb, leb}
-use lib.ListN.{length, getD, take, drop}
+use lib.ListN.{getD, take, drop}
 use Rattle.std.proofs.shelf.Tests.{le-leb, eq-eqb, cond-true}
-use Rattle.std.specs.declared.option.Option.{Option}
 use Rattle.std.specs.declared.option.Option.the-variants.{Some, None}
 use Rattle.crc32.specs.Sum.{sum}
 use Rattle.nodes.specs.Fields.{le32, all}
 use Rattle.nodes.specs.Items.{Item, totlen, nsize, name, entry, csize, payload, content}
-use Rattle.nodes.specs.Records.{Entry, Content, read-entry, read-content}
+use Rattle.nodes.specs.Records.{read-entry, read-content}
 use Rattle.nodes.specs.Passing.{entry-in, content-in}
 
 three : (a b c : Bool) → a ≡ true → b ≡ true → c ≡ true → all (a ∷ b ∷ c ∷ []) ≡ true

@@ -1,20 +1,19 @@
 -- What stands at a place, by the bytes that decide it.
 use mathlib.Core.Path.{_≡_, refl, sym, ap, subst, _∙_}
 use mathlib.Core.Bool.{Bool, true, false, cond}
-use mathlib.Core.List.{List, [], _∷_, _++_, map}
-use Prim.Native.Nat.{ℕ, zero, suc, _+_, _-_, _*_, _/_, _≤_, _<_, max}
+use mathlib.Core.List.{List, [], _∷_, _++_}
+use Prim.Native.Nat.{ℕ, zero, suc, _+_, _-_, _≤_, max}
 use native.Mathlib.Omega.{arith}
 use lib.Dec.{eqb, leb}
-use lib.ListN.{length, getD, take, drop, length-take, length-drop}
+use lib.ListN.{length, getD, take, drop}
 use Rattle.std.proofs.shelf.Lists.{getD-append-left, length-append, length-map, length-take-le, take-append-drop, take-at, take-take}
-use Rattle.std.proofs.shelf.Tests.{leb-true, eqb-true, eqb-false, le-leb, cond-true, cond-false, cond-both}
+use Rattle.std.proofs.shelf.Tests.{leb-true, le-leb, cond-true, cond-false}
 use Rattle.std.proofs.shelf.Ways.{tells}
-use Rattle.std.specs.declared.option.Option.{Option}
 use Rattle.std.specs.declared.option.Option.the-variants.{Some, None}
 use Rattle.crc32.specs.Sum.{sum}
 use Rattle.flash.specs.Cells.{Cell, byte, lost, front, cells}
 use Rattle.nodes.specs.Fields.{le16, le32, padded, all}
-use Rattle.nodes.specs.Items.{Item, kind, totlen, is-word, reach, header, passes, offered, stands, size}
+use Rattle.nodes.specs.Items.{Item, totlen, is-word, reach, header, passes, offered, stands, size}
 
 -- an item that passes at the first of the cells
 pub record Reads (cs : List Cell) (it : Item) : Type 0 where

@@ -1,15 +1,15 @@
 -- The walk of a block, item by item.
-use mathlib.Core.Path.{_≡_, refl, sym, ap, subst, _∙_}
-use mathlib.Core.List.{List, [], _∷_, _++_}
-use Prim.Native.Nat.{ℕ, zero, suc, _+_, _-_, _≤_, _<_}
+use mathlib.Core.Path.{_≡_, refl, sym, ap, _∙_}
+use mathlib.Core.List.{List, [], _∷_}
+use Prim.Native.Nat.{ℕ, zero, suc, _+_, _-_, _≤_}
 use native.Mathlib.Omega.{arith}
 use lib.ListN.{length, take, drop, length-drop}
 use Rattle.std.specs.declared.option.Option.{Option}
 use Rattle.std.specs.declared.option.Option.the-variants.{Some, None}
 use Rattle.flash.specs.Cells.{Cell}
 use Rattle.nodes.specs.Items.{Item, stands, size}
-use Rattle.nodes.specs.Walk.{walk-in, walk-from, walk, met}
-use Rattle.nodes.proofs.Standing.{Reads, stands-reads, reads-stands, sized, moved}
+use Rattle.nodes.specs.Walk.{walk-in, walk-from, met}
+use Rattle.nodes.proofs.Standing.{stands-reads, reads-stands, sized, moved}
 
 both : (f g : ℕ → List (ℕ × Item)) (p : ℕ) (o : Option Item) → ((it : Item) → o ≡ Some it → f (p + size it) ≡ g (p + size it)) → met f p o ≡ met g p o
 both f g p None h = refl

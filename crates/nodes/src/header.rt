@@ -1,6 +1,6 @@
 // The header of an item: the magic, its kind, its length and the sum of these.
 ghost use mathlib.Core.Path.{_≡_};
-ghost use Prim.Native.Nat.{ℕ, _+_, _≤_};
+ghost use Prim.Native.Nat.{_+_};
 ghost use Rattle.nodes.specs.Fields.{padded};
 ghost use Rattle.nodes.specs.Headers.{head-shown, head-of, passing};
 

@@ -13,6 +13,7 @@ entry-requires c κs = ((refl, tt), search needs)
 
 pub returns : need.returns
 returns c =
-    xor-comm (c .entry .result) (c .args .c / 256)
+    ap (bitXor (c .entry .result)) (c .above-byte .ensures)
+    ∙ xor-comm (c .entry .result) (c .args .c / 256)
     ∙ ap (bitXor (c .args .c / 256)) (c .entry .ensures ∙ ap (rounds 8) (and-mask (bitXor (c .args .c) (c .args .b)) 8))
     ∙ sym (fed-is (c .args .c) (c .args .b) (search needs))

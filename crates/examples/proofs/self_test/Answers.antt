@@ -1,4 +1,3 @@
-use mathlib.Core.Path.{refl}
 use Rattle.examples.proofs.Computed.{worked}
 use Rattle.examples.proofs.self_test.Needs as need
 

@@ -1,4 +1,3 @@
-use mathlib.Core.Path.{_≡_, sym, _∙_}
 use Rattle.flash.proofs.Settled.{same-shape, nothing-held-if}
 use Rattle.flash.proofs.run.nothing_held.Needs as need
 

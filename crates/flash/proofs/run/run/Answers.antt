@@ -1,5 +1,4 @@
 use Rattle.std.proofs.shelf.Results.{err-from-errBy}
-use Rattle.flash.specs.declared.operation.Operation.the-variants.{Erase}
 use Rattle.flash.specs.Ran.{all}
 use Rattle.flash.proofs.Runs.{composes, ran-all, ran-more, ran-up-to}
 use Rattle.flash.proofs.run.run.Needs as need

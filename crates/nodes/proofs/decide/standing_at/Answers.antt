@@ -1,9 +1,6 @@
-use mathlib.Core.Path.{_≡_, sym, ap, _∙_}
-use mathlib.Core.Bool.{false}
-use native.Mathlib.Omega.{arith}
+use mathlib.Core.Path.{sym, ap, _∙_}
 use Rattle.std.proofs.shelf.Tests.{ne-eqb}
 use Rattle.nodes.specs.Fields.{padded}
-use Rattle.nodes.specs.Items.{is-word}
 use Rattle.nodes.proofs.Decided.{reaching-length, none-word, word-sized, none-head, none-sound, some-sized, passing-some}
 use Rattle.nodes.proofs.decide.standing_at.Needs as need
 

@@ -1,4 +1,4 @@
-use mathlib.Core.Path.{_≡_, ap, sym, subst}
+use mathlib.Core.Path.{ap, sym, subst}
 use Prim.Native.Nat.{_<_, _≤_, _+_, _*_}
 use Rattle.std.proofs.shelf.Results.{err-from-errBy}
 use Rattle.flash.specs.Rules.{answered}

@@ -1,7 +1,7 @@
 use mathlib.Core.Path.{refl, sym, ap, _∙_}
 use borrow.Author.Needs.{needs}
 use Rattle.nodes.specs.Reading.{first-of, behind}
-use Rattle.nodes.proofs.Reading.{Step, step, stop}
+use Rattle.nodes.proofs.Reading.{step, stop}
 use Rattle.nodes.proofs.reader.Reader.next.Needs as need
 
 pub returns-in-rest : need.returns-in-rest
