@@ -9,7 +9,7 @@ use encode::node::encode_content;
 use encode::node::encode_entry;
 use flash::interface::Flash;
 use flash::place::Place;
-use nodes::kind::FileKind;
+use kinds::FileKind;
 use nodes::reader::Reader;
 use nodes::record::Content;
 use nodes::record::Entry;

@@ -16,7 +16,7 @@ use crate::words::header;
 use crate::words::put;
 use crate::words::put_words;
 use crate::words::put_zeros;
-use nodes::kind::Kind;
+use kinds::Kind;
 
 // The header of the marker's kind, 12 bytes long, with its sum.
 const MARKER: [u8; 12] = [

@@ -19,7 +19,7 @@ use crate::words::put_words;
 use crate::words::put_zeros;
 use crate::words::sum_of_first;
 use crc32::sum_of;
-use nodes::kind::Kind;
+use kinds::Kind;
 use nodes::record::Content;
 use nodes::record::Entry;
 

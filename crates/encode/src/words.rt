@@ -4,10 +4,10 @@ ghost use Prim.Native.Nat.{_+_, _-_, _*_, _≤_};
 ghost use lib.ListN.{length, replicate, take};
 ghost use Rattle.crc32.specs.Sum.{sum};
 ghost use Rattle.flash.specs.Cells.{over};
-ghost use Rattle.nodes.specs.Kinds.{kind-value};
+ghost use Rattle.kinds.specs.Kinds.{kind-value};
 ghost use Rattle.encode.specs.Encode.{head, spread};
 use crc32::sum_of;
-use nodes::kind::Kind;
+use kinds::Kind;
 
 // Writes the bytes at a place.
 pub(crate) fn put(out: &mut [u8], at: usize, bytes: &[u8])

@@ -4,8 +4,8 @@
 use mathlib.Core.Path.{_≡_}
 use mathlib.Core.List.{[], _∷_}
 use Rattle.crc32.specs.Sum.{sum}
-use Rattle.nodes.specs.Kinds.{kind-value}
-use Rattle.nodes.specs.declared.kind.Kind.the-variants.{Marker}
+use Rattle.kinds.specs.Kinds.{kind-value}
+use Rattle.kinds.specs.declared.Kind.the-variants.{Marker}
 use Rattle.encode.specs.Encode.{head, zero-word, padding, filling, rest-of-batch}
 
 pub record Worked : Type 0 where

@@ -11,8 +11,8 @@ use Rattle.std.proofs.shelf.Tests.{leb-true, leb-false, le-leb, lt-leb, eq-eqb,
 use Rattle.std.specs.declared.option.Option.{Option}
 use Rattle.std.specs.declared.option.Option.the-variants.{Some, None}
 use Rattle.flash.specs.Cells.{front}
-use Rattle.nodes.specs.declared.kind.Kind.the-variants as kinds
-use Rattle.nodes.specs.Kinds.{kind-with}
+use Rattle.kinds.specs.declared.Kind.the-variants as kinds
+use Rattle.kinds.specs.Kinds.{kind-with}
 use Rattle.nodes.specs.Fields.{le32, padded, all}
 use Rattle.nodes.specs.Items.{Item, kind, totlen, is-word, reach, header, entry, content, offered, stands, size}
 use Rattle.nodes.specs.Records.{Entry, Content, read-entry, read-content}

@@ -6,9 +6,9 @@ use native.Mathlib.Omega.{arith}
 use lib.Dec.{eqb}
 use Rattle.std.proofs.shelf.Tests.{eqb-true, cond-true, cond-false}
 use Rattle.std.specs.declared.option.Option.the-variants.{Some, None}
-use Rattle.nodes.specs.declared.kind.Kind.{Kind}
-use Rattle.nodes.specs.declared.kind.Kind.the-variants.{Marker, Padding, Entry, Content}
-use Rattle.nodes.specs.Kinds.{kind-value, kind-with}
+use Rattle.kinds.specs.declared.Kind.{Kind}
+use Rattle.kinds.specs.declared.Kind.the-variants.{Marker, Padding, Entry, Content}
+use Rattle.kinds.specs.Kinds.{kind-value, kind-with}
 use Rattle.nodes.specs.Fields.{padded}
 use Rattle.nodes.specs.Items.{Item, kind, totlen, is-word, size}
 use Rattle.nodes.specs.Records.{read-entry, read-content}

@@ -11,7 +11,7 @@ use crate::header::Header;
 use crate::header::padded_len;
 use crate::header::passing_header;
 use crate::item::Item;
-use crate::kind::Kind;
+use kinds::Kind;
 use crate::node::read_content;
 use crate::node::read_entry;
 use crate::readable::reaches;

@@ -5,7 +5,6 @@ pub(crate) mod decide;
 pub mod header;
 pub mod item;
 pub mod judge;
-pub mod kind;
 pub(crate) mod node;
 pub(crate) mod readable;
 pub mod reader;

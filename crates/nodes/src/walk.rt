@@ -6,7 +6,7 @@ ghost use Rattle.nodes.specs.Walk.{marked, walk};
 ghost use Rattle.nodes.specs.Reading.{rest, first-of, behind, found-shown, bears-marker};
 use crate::decide::standing_at;
 use crate::header::read_header;
-use crate::kind::Kind;
+use kinds::Kind;
 use crate::readable::reaches;
 use crate::reader::Found;
 use crate::reader::Reader;

@@ -1,7 +1,7 @@
 use mathlib.Core.Path.{_∙_, ap}
 use native.Mathlib.Omega.{arith}
 use Rattle.crc32.specs.Sum.{sum}
-use Rattle.nodes.specs.Kinds.{kind-value}
+use Rattle.kinds.specs.Kinds.{kind-value}
 use Rattle.encode.specs.Encode.{spread}
 use Rattle.encode.proofs.Parts.{head-words}
 use Rattle.encode.proofs.words.header.Needs as need

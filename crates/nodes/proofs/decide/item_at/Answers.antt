@@ -1,6 +1,6 @@
 use mathlib.Core.Path.{sym, ap, _∙_}
 use Rattle.std.specs.declared.option.Option.the-variants.{Some}
-use Rattle.nodes.specs.declared.kind.Kind.the-variants as kinds
+use Rattle.kinds.specs.declared.Kind.the-variants as kinds
 use Rattle.nodes.proofs.Viewed.{kind-known}
 use Rattle.nodes.proofs.Decided.{unknown-viewed, marker-viewed, padding-viewed}
 use Rattle.nodes.proofs.decide.item_at.Needs as need

@@ -9,10 +9,10 @@ use Prim.Native.Nat.{ℕ}
 use lib.Dec.{eqb}
 use Rattle.std.specs.declared.option.Option.{Option}
 use Rattle.std.specs.declared.option.Option.the-variants.{Some, None}
-use Rattle.nodes.specs.declared.kind.Kind.{Kind}
-use Rattle.nodes.specs.declared.kind.Kind.the-variants.{Marker, Padding, Entry, Content}
-use Rattle.nodes.specs.declared.kind.FileKind.{FileKind}
-use Rattle.nodes.specs.declared.kind.FileKind.the-variants.{File, Directory}
+use Rattle.kinds.specs.declared.Kind.{Kind}
+use Rattle.kinds.specs.declared.Kind.the-variants.{Marker, Padding, Entry, Content}
+use Rattle.kinds.specs.declared.FileKind.{FileKind}
+use Rattle.kinds.specs.declared.FileKind.the-variants.{File, Directory}
 
 abbrev pub kind-value : Kind → ℕ
 kind-value Marker = 0x2003

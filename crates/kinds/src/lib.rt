@@ -1,6 +1,6 @@
-// The kinds of item that we know, and the two kinds of thing that an entry can name, with their values on the flash.
+// The values that stand for kinds on the flash: of the items that we know, and of what an entry can name.
 ghost use mathlib.Core.Path.{_≡_};
-ghost use Rattle.nodes.specs.Kinds.{kind-value, kind-with, dtype-of, mode-of};
+ghost use Rattle.kinds.specs.Kinds.{kind-value, kind-with, dtype-of, mode-of};
 
 // The kind of an item; its value stands in the header.
 #[derive(Clone, Copy)]
