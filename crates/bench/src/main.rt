@@ -33,12 +33,19 @@ const TOP: u32 = 2;
 
 const TRACK: u32 = 3;
 
-// What is laid, and where its next item goes. `laid` are the offsets of the items that were asked for.
+// An item that was asked for.
+#[derive(Clone, Copy)]
+struct Asked {
+    offset: usize,
+    what: &'static str,
+}
+
+// What was asked for on the block, and where its next item goes. `run` is the buffer that items are made in.
 #[derive(Drop)]
 struct Log {
     run: Vec<u8>,
     end: usize,
-    laid: Vec<usize>,
+    asked: Vec<Asked>,
 }
 
 // Programs the n bytes of the run at the log's end; the log goes on behind them where that was accepted.
@@ -47,7 +54,7 @@ fn lay<F: Flash>(
     flash: &mut F,
     log: &mut Log,
     n: usize,
-    what: &str,
+    what: &'static str,
 ) -> Result<(), AnyError> {
     if n > log.run.len() {
         return Err("an item that is longer than the run".into());
@@ -64,7 +71,7 @@ fn lay<F: Flash>(
         },
         &log.run[0..n],
     );
-    log.laid.push(offset)?;
+    log.asked.push(Asked { offset, what })?;
     if answer.is_ok() {
         log.end = offset.saturating_add(n);
     }
@@ -76,7 +83,7 @@ fn lay_entry<F: Flash>(
     flash: &mut F,
     log: &mut Log,
     entry: &Entry<'_>,
-    what: &str,
+    what: &'static str,
 ) -> Result<(), AnyError> {
     match encode_entry(entry, &mut log.run) {
         Some(n) => lay(rt, flash, log, n, what),
@@ -89,7 +96,7 @@ fn lay_content<F: Flash>(
     flash: &mut F,
     log: &mut Log,
     content: &Content<'_>,
-    what: &str,
+    what: &'static str,
 ) -> Result<(), AnyError> {
     match encode_content(content, &mut log.run) {
         Some(n) => lay(rt, flash, log, n, what),
@@ -220,10 +227,12 @@ fn survey<F: Flash>(
     print!(rt, "read block {WORK}: ")?;
     show_answer(rt, flash.read(start, bytes))?;
     let standing = show_items(rt, bytes, readable)?;
-    for offset in log.laid.iter().skip(standing) {
+    for lost in log.asked.iter().skip(standing) {
+        let offset = lost.offset;
+        let what = lost.what;
         println!(
             rt,
-            "  lost: what was to stand at block {WORK}, offset {offset}"
+            "  lost: {what}, which were to stand at block {WORK}, offset {offset}"
         )?;
     }
     Ok(())
@@ -235,7 +244,7 @@ fn task<F: Flash>(rt: &LibcRuntime, flash: &mut F) -> Result<(), AnyError> {
     let mut log = Log {
         run: vec![in heap; 0u8; 1024]?,
         end: 0,
-        laid: Vec::new(heap),
+        asked: Vec::new(heap),
     };
     let mut bytes = vec![in heap; 0u8; BLOCK]?;
     let readable = vec![in heap; true; BLOCK / 4]?;

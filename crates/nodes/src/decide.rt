@@ -11,10 +11,10 @@ use crate::header::Header;
 use crate::header::padded_len;
 use crate::header::passing_header;
 use crate::item::Item;
-use kinds::Kind;
 use crate::node::read_content;
 use crate::node::read_entry;
 use crate::readable::reaches;
+use kinds::Kind;
 
 // An item, and how many bytes of the block it takes up.
 #[derive(Clone, Copy)]

@@ -6,11 +6,11 @@ ghost use Rattle.nodes.specs.Walk.{marked, walk};
 ghost use Rattle.nodes.specs.Reading.{rest, first-of, behind, found-shown, bears-marker};
 use crate::decide::standing_at;
 use crate::header::read_header;
-use kinds::Kind;
 use crate::readable::reaches;
 use crate::reader::Found;
 use crate::reader::Reader;
 use flash::place::Place;
+use kinds::Kind;
 
 // Whether bytes begin with the marker: its header, of which the sum is known.
 fn has_marker(bytes: &[u8]) -> bool
