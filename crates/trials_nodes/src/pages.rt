@@ -1,0 +1,121 @@
+// Tries a block of which one page, or all from one on, cannot be read: how many items are then met, and which numbers the
+// reader hands out of each item of the block.
+use crate::case::Base;
+use crate::case::Case;
+use crate::image::BLOCK;
+use crate::image::image;
+use crate::image::lay;
+use crate::tally::tally;
+use encode::filler::filling;
+use nodes::item::Item;
+use nodes::reader::Reader;
+use std::error::AnyError;
+
+// What stands first; padding and a content come behind it.
+const START: Case = Case("", Base::File, (12, 4096), &[], &[]);
+
+const BEHIND: Case = Case("", Base::Plain, (0, 76), &[], &[]);
+
+// The pages up to some past the last item.
+const PAGES: usize = 41;
+
+// The fields of an item, and a sum of its name or data.
+fn numbers(item: &Item<'_>) -> [u32; 11] {
+    match item {
+        Item::Zero => [0; 11],
+        Item::Marker { length } => [0x2003, (*length % 65536) as u32, 0, 0, 0, 0, 0, 0, 0, 0, 0],
+        Item::Padding { length } => [0x2004, (*length % 65536) as u32, 0, 0, 0, 0, 0, 0, 0, 0, 0],
+        Item::Unknown { kind, length } => [
+            *kind as u32,
+            (*length % 65536) as u32,
+            0,
+            0,
+            0,
+            0,
+            0,
+            0,
+            0,
+            0,
+            0,
+        ],
+        Item::Entry { bytes, entry: e } => [
+            0xe001,
+            (bytes.len() % 65536) as u32,
+            e.pino,
+            e.version,
+            e.ino,
+            e.dtype as u32,
+            (e.name.len() % 65536) as u32,
+            crc32::sum_of(e.name),
+            0,
+            0,
+            0,
+        ],
+        Item::Content { bytes, content: c } => [
+            0xe002,
+            (bytes.len() % 65536) as u32,
+            c.ino,
+            c.version,
+            c.mode,
+            c.isize,
+            c.offset,
+            c.dsize,
+            c.compr as u32,
+            (c.payload.len() % 65536) as u32,
+            crc32::sum_of(c.payload),
+        ],
+    }
+}
+
+// Prints the numbers of each item.
+fn show_items(rt: &LibcRuntime, block: &[u8], readable: &[bool]) -> Result<(), AnyError> {
+    let mut reader = Reader::new(0, block, readable);
+    while let Some(found) = reader.next() {
+        let at = found.place.offset;
+        let all = numbers(&found.item);
+        println!(rt, "at {at}: {all:?}")?;
+    }
+    Ok(())
+}
+
+// For each page: how many items are met if it alone cannot be read.
+fn without_one(rt: &LibcRuntime, block: &[u8], readable: &mut [bool]) -> Result<(), AnyError> {
+    print!(rt, "items without page 0, 1, ..:")?;
+    for page in 0..PAGES {
+        if page < readable.len() {
+            readable[page] = false;
+            let items = tally(block, readable).items;
+            print!(rt, " {items}")?;
+            readable[page] = true;
+        }
+    }
+    println!(rt, "")?;
+    Ok(())
+}
+
+// For each number of pages: how many items are met if only so many have a flag.
+fn with_few(rt: &LibcRuntime, block: &[u8], readable: &[bool]) -> Result<(), AnyError> {
+    print!(rt, "items with flags for 0, 1, .. pages:")?;
+    for pages in 0..PAGES {
+        if pages <= readable.len() {
+            let items = tally(block, &readable[..pages]).items;
+            print!(rt, " {items}")?;
+        }
+    }
+    println!(rt, "")?;
+    Ok(())
+}
+
+pub(crate) fn try_pages(rt: &LibcRuntime) -> Result<(), AnyError> {
+    println!(rt, "pages")?;
+    let mut block = image(rt.alloc(), &START)?;
+    let mut readable = vec![in rt.alloc(); true; BLOCK / 4]?;
+    let mut padding = [0xffu8; 16];
+    let _ = filling(&mut padding, 56, 72);
+    lay(&mut block, 56, &padding);
+    lay(&mut block, 72, &image(rt.alloc(), &BEHIND)?);
+    lay(&mut block, 148, &[0; 4]);
+    show_items(rt, &block, &readable)?;
+    without_one(rt, &block, &mut readable)?;
+    with_few(rt, &block, &readable)
+}

@@ -1,0 +1,59 @@
+// Walks the block of a case, and prints what the walk met.
+use crate::case::Case;
+use crate::image::BLOCK;
+use crate::image::image;
+use flash::refusal::Refusal;
+use nodes::reader::Reader;
+use std::error::AnyError;
+
+// How many items a walk met, where the last of them stands, and the first offence.
+#[derive(Clone, Copy)]
+pub(crate) struct Tally {
+    pub(crate) items: usize,
+    pub(crate) last: usize,
+    pub(crate) offence: Option<Refusal>,
+}
+
+// Walks a block to its end.
+pub(crate) fn tally(bytes: &[u8], readable: &[bool]) -> Tally {
+    let mut all = Tally {
+        items: 0,
+        last: 0,
+        offence: None,
+    };
+    let mut reader = Reader::new(0, bytes, readable);
+    while let Some(found) = reader.next() {
+        all.items = all.items.saturating_add(1);
+        all.last = found.place.offset;
+        if all.offence.is_none() {
+            all.offence = found.item.offence();
+        }
+    }
+    all
+}
+
+fn show(rt: &LibcRuntime, label: &str, sum: u32, all: Tally) -> Result<(), AnyError> {
+    let items = all.items;
+    let last = all.last;
+    let offence = match all.offence {
+        Some(refusal) => refusal.number(),
+        None => 0,
+    };
+    println!(
+        rt,
+        "{label}: block {sum:08x}, items {items}, last at {last}, offence {offence}"
+    )?;
+    Ok(())
+}
+
+// Tries each case: the sum of its block, so that the model knows that it speaks of the same bytes, and what the walk met.
+pub(crate) fn try_cases(rt: &LibcRuntime, title: &str, cases: &[Case]) -> Result<(), AnyError> {
+    println!(rt, "{title}")?;
+    let readable = vec![in rt.alloc(); true; BLOCK / 4]?;
+    for case in cases {
+        let block = image(rt.alloc(), case)?;
+        let sum = crc32::sum_of(&block);
+        show(rt, case.0, sum, tally(&block, &readable))?;
+    }
+    Ok(())
+}
