@@ -8,15 +8,15 @@ use std::error::AnyError;
 
 // How many items a walk met, where the last of them stands, and the first offence.
 #[derive(Clone, Copy)]
-pub(crate) struct Tally {
+pub(crate) struct Met {
     pub(crate) items: usize,
     pub(crate) last: usize,
     pub(crate) offence: Option<Refusal>,
 }
 
 // Walks a block to its end.
-pub(crate) fn tally(bytes: &[u8], readable: &[bool]) -> Tally {
-    let mut all = Tally {
+pub(crate) fn tally(bytes: &[u8], readable: &[bool]) -> Met {
+    let mut all = Met {
         items: 0,
         last: 0,
         offence: None,
@@ -32,7 +32,7 @@ pub(crate) fn tally(bytes: &[u8], readable: &[bool]) -> Tally {
     all
 }
 
-fn show(rt: &LibcRuntime, label: &str, sum: u32, all: Tally) -> Result<(), AnyError> {
+fn show(rt: &LibcRuntime, label: &str, sum: u32, all: Met) -> Result<(), AnyError> {
     let items = all.items;
     let last = all.last;
     let offence = match all.offence {
