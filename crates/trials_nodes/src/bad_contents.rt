@@ -3,7 +3,7 @@ use crate::case::Base;
 use crate::case::Case;
 use crate::case::FIRST;
 
-pub(crate) const CONTENTS: [Case; 55] = [
+pub(crate) static CONTENTS: [Case; 55] = [
     Case("good", Base::Plain, FIRST, &[], &[]),
     Case(
         "good, a zero word behind",

@@ -3,7 +3,7 @@ use crate::case::Base;
 use crate::case::Case;
 use crate::case::FIRST;
 
-pub(crate) const ENTRIES: [Case; 46] = [
+pub(crate) static ENTRIES: [Case; 46] = [
     Case("good", Base::File, FIRST, &[], &[]),
     Case(
         "good, a zero word behind",

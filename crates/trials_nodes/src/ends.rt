@@ -2,7 +2,7 @@
 use crate::case::Base;
 use crate::case::Case;
 
-pub(crate) const ENDS: [Case; 25] = [
+pub(crate) static ENDS: [Case; 25] = [
     Case("entry up to the end", Base::File, (4052, 4096), &[], &[]),
     Case(
         "entry that needs 4 more",

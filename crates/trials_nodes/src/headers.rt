@@ -3,7 +3,7 @@ use crate::case::Base;
 use crate::case::Case;
 use crate::case::FIRST;
 
-pub(crate) const HEADERS: [Case; 29] = [
+pub(crate) static HEADERS: [Case; 29] = [
     Case("good", Base::Bare, FIRST, &[(0, 0x20051985), (4, 12)], &[]),
     Case(
         "first magic byte",

@@ -68,7 +68,7 @@ fn numbers(item: &Item<'_>) -> [u32; 11] {
 }
 
 // Prints the numbers of each item.
-fn show_items(rt: &LibcRuntime, block: &[u8], readable: &[bool]) -> Result<(), AnyError> {
+fn show_items<'a>(rt: &LibcRuntime, block: &'a [u8], readable: &'a [bool]) -> Result<(), AnyError> {
     let mut reader = Reader::new(0, block, readable);
     while let Some(found) = reader.next() {
         let at = found.place.offset;

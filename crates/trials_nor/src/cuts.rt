@@ -7,7 +7,7 @@ use flash::interface::Flash;
 use flash::place::Place;
 use std::error::AnyError;
 
-const FAULTS: [u8; 5] = [0, 0x01, 0x10, 0x80, 0xff];
+static FAULTS: [u8; 5] = [0, 0x01, 0x10, 0x80, 0xff];
 
 const START: Place = Place {
     block: 0,
@@ -51,20 +51,20 @@ fn cut_erase<F: Flash>(rt: &LibcRuntime, flash: &mut F, n: usize, j: u8) -> Resu
 pub(crate) fn try_cuts<F: Flash>(rt: &LibcRuntime, flash: &mut F) -> Result<(), AnyError> {
     println!(rt, "cuts")?;
     for n in 0..7 {
-        for j in FAULTS {
-            cut_program(rt, flash, n, j)?;
+        for j in &FAULTS {
+            cut_program(rt, flash, n, *j)?;
         }
     }
     for n in 0..2 {
-        for j in FAULTS {
-            cut_erase(rt, flash, n, j)?;
+        for j in &FAULTS {
+            cut_erase(rt, flash, n, *j)?;
         }
     }
     Ok(())
 }
 
 // The second arming replaces the first; steps are counted over programs, erases and blocks.
-pub(crate) const COUNTS: [Call; 41] = [
+pub(crate) static COUNTS: [Call; 41] = [
     Call::Erase(0),
     Call::Arm(0, 0x01),
     Call::Arm(2, 0x80),

@@ -3,7 +3,7 @@ use crate::call::Call;
 
 const FAR: usize = 0xffffffffffffffff;
 
-pub(crate) const REFUSALS: [Call; 75] = [
+pub(crate) static REFUSALS: [Call; 75] = [
     // the memory begins as zeros: every block is full
     Call::Mark(0),
     Call::Mark(3),
@@ -92,7 +92,7 @@ pub(crate) const REFUSALS: [Call; 75] = [
     Call::Read(1, 4000, 96),
 ];
 
-pub(crate) const WITHOUT_POWER: [Call; 38] = [
+pub(crate) static WITHOUT_POWER: [Call; 38] = [
     Call::Arm(0, 0),
     Call::Erase(1),
     // 20 alone

@@ -4,7 +4,7 @@ use devices::nor::NorFlash;
 use flash::interface::Flash;
 use std::error::AnyError;
 
-const SIZES: [usize; 12] = [
+static SIZES: [usize; 12] = [
     0,
     4,
     4096,
@@ -20,7 +20,8 @@ const SIZES: [usize; 12] = [
 ];
 
 pub(crate) fn try_sizes(rt: &LibcRuntime) -> Result<(), AnyError> {
-    for n in SIZES {
+    for size in &SIZES {
+        let n = *size;
         let mut memory = vec![in rt.alloc(); 0u8; n]?;
         match Nor::new(&mut memory) {
             Ok(chip) => {
