@@ -238,6 +238,7 @@ REFUSALS = [
     ("program", 0, 0, 0, 0),
     ("program", 0, 0, 12, 4),
     # words of ff do not raise the mark; a word with one other byte does
+    ("erase", 2),
     ("program", 255, 2, 0, 8),
     ("mark", 2),
     ("program", 0, 2, 4, 4),
@@ -353,8 +354,10 @@ COUNTS = [
     ("program", 0, 0, 0, 8),
     ("look", 0),
     # a whole block is 1024 steps
+    ("erase", 2),
     ("arm", 1024, 0),
     ("program", 0, 2, 0, 4096),
+    ("mark", 2),
     ("erase", 2),
     ("restart",),
 ]
@@ -367,3 +370,5 @@ FILLINGS = [
 SIZES = [0, 4, 4096, 12288, 16383, 16384, 16385, 20480, 65535, 65536, 65540, 69632]
 
 FAULTS = [0, 0x01, 0x10, 0x80, 0xFF]
+
+VALUES = [0, 1, 2, 3, 4, 5, 8, 11, 12, 40, 42, 73, 512, 65536, 0x80000000, 0xFFFFFFFF]

@@ -291,7 +291,49 @@ def print_fillings():
                 filling = None
         said = "refused" if filling is None else f"{len(filling)} bytes"
         out = (filling or b"") + b"\xff" * (room - len(filling or b""))
-        print(f"end {end}, batch {batch}, room {room}: {said}, sum {crc(out):08x}")
+        print(f"end {end}, batch {batch}, room {room}: {said}, digest {digest(out):08x}")
+
+
+class Random:
+    """Numbers that look random, by a linear congruence."""
+
+    def __init__(self):
+        self.state = 7
+
+    def number(self):
+        self.state = (self.state * 1664525 + 1013904223) % 2 ** 32
+        return self.state
+
+    def below(self, n):
+        return (self.number() >> 8) % n
+
+
+def fold(all, more):
+    """One more number in a digest."""
+    return (all ^ more) * 16777619 % 2 ** 32
+
+
+def random_change(random):
+    at = 4 * random.below(18)
+    value = random.number() if random.below(3) == 0 else VALUES[random.below(16)]
+    return at, value
+
+
+def print_random_changes():
+    print("random changes")
+    random, all, items, offences = Random(), 1, 0, 0
+    for i in range(1000):
+        base = ("file", "removal", "plain", "hole")[random.below(4)]
+        one, two = random_change(random), random_change(random)
+        block = block_of(base, FIRST, [], [one]) if random.below(4) == 0 else block_of(base, FIRST, [one, two], [])
+        met = walk(block, ALL)
+        bad = [o for o in (offence(item) for _, item in met) if o]
+        number = bad[0] if bad else 0
+        all = fold(fold(fold(all, digest(block)), number), met[-1][0])
+        items += len(met)
+        offences += number > 0
+        if i % 50 == 49:
+            print(f"{i}: {all:08x}, items {items}, offences {offences}")
 
 
 def up_to(n, batch):
@@ -443,6 +485,69 @@ def print_sizes():
             print(f"memory of {n} bytes: refused {refused.number}, {n} bytes back")
 
 
+def number_of(act, *args):
+    """An answer as one number."""
+    try:
+        value = act(*args)
+        return value % 65536 if isinstance(value, int) else 0
+    except Refused as refused:
+        return 65536 + refused.number
+
+
+def near(chip, random, block):
+    try:
+        mark = chip.mark(block)
+    except Refused:
+        mark = 0
+    way = random.below(8)
+    if way == 0:
+        up = random.below(4097)
+    elif way == 1:
+        up = random.below(4)
+    elif way == 2:
+        up = 4 * random.below(1000)
+    else:
+        up = 4 * random.below(2)
+    down = 4 if random.below(8) == 0 else 0
+    return max(0, mark + up - down)
+
+
+def random_call(chip, random):
+    block = random.below(9) // 2
+    way = random.below(10)
+    if way == 0:
+        return number_of(chip.erase, block)
+    if way == 1:
+        steps = random.below(12)
+        return number_of(chip.arm, steps, random.below(256))
+    if way == 2:
+        chip.restart()
+        return 0
+    if way == 3:
+        return number_of(chip.mark, block)
+    if way in (4, 5):
+        offset, n = random.below(4097), random.below(300)
+        try:
+            buffer = chip.read(block, offset, n)
+        except Refused:
+            buffer = b"\xa5" * n
+        return fold(crc(buffer), number_of(chip.read, block, offset, n))
+    offset = near(chip, random, block)
+    bits = random.below(256)
+    more = 1 if random.below(10) == 0 else 0
+    n = 4 * random.below(9) + more
+    return number_of(chip.program, block, offset, pattern(bits, n))
+
+
+def print_random_calls(chip):
+    print("random calls")
+    random, all = Random(), 1
+    for i in range(4000):
+        all = fold(all, random_call(chip, random))
+        if i % 200 == 199:
+            print(f"{i}: {all:08x}")
+
+
 def print_cuts(chip):
     print("cuts")
     for what, counts in (("program", range(7)), ("erase", range(2))):
@@ -468,6 +573,7 @@ def nodes():
     print_cases("block ends", ENDS)
     print_pages()
     print_fillings()
+    print_random_changes()
 
 
 def nor():
@@ -477,6 +583,7 @@ def nor():
     print_calls(chip, "without power", WITHOUT_POWER)
     print_cuts(chip)
     print_calls(chip, "counts", COUNTS)
+    print_random_calls(chip)
 
 
 if __name__ == "__main__":

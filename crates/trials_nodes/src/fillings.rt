@@ -1,4 +1,5 @@
 // Tries what fills a block from its end up to the end of a batch.
+use crate::tally::digest;
 use encode::filler::filling;
 use std::error::AnyError;
 
@@ -30,8 +31,8 @@ pub(crate) fn try_fillings(rt: &LibcRuntime) -> Result<(), AnyError> {
             Some(n) => print!(rt, "end {end}, batch {batch}, room {room}: {n} bytes,")?,
             None => print!(rt, "end {end}, batch {batch}, room {room}: refused,")?,
         }
-        let sum = crc32::sum_of(&out);
-        println!(rt, " sum {sum:08x}")?;
+        let all = digest(&out);
+        println!(rt, " digest {all:08x}")?;
     }
     Ok(())
 }

@@ -1,6 +1,5 @@
 // Makes the bytes of a block for a case.
 use crate::case::Base;
-use crate::case::Case;
 use crc32::sum_of;
 use encode::filler::marker;
 use encode::node::encode_content;
@@ -129,9 +128,14 @@ fn with_base(heap: Global, base: Base, place: usize) -> Result<Vec<u8>, AllocErr
     Ok(block)
 }
 
-// The block of a case.
-pub(crate) fn image(heap: Global, case: &Case) -> Result<Vec<u8>, AllocError> {
-    let Case(_, base, (place, length), edits, flips) = *case;
+// A block of so many bytes with the item of a base at a place, and changes there.
+pub(crate) fn image(
+    heap: Global,
+    base: Base,
+    (place, length): (usize, usize),
+    edits: &[(usize, u32)],
+    flips: &[(usize, u32)],
+) -> Result<Vec<u8>, AllocError> {
     let mut block = with_base(heap, base, place)?;
     if place <= block.len() {
         change(&mut block[place..], edits, flips);

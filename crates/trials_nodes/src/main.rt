@@ -3,11 +3,13 @@
 mod bad_contents;
 mod bad_entries;
 mod case;
+mod chance;
 mod ends;
 mod fillings;
 mod headers;
 mod image;
 mod pages;
+mod random;
 mod sums;
 mod tally;
 
@@ -20,7 +22,8 @@ fn run(rt: &LibcRuntime) -> Result<(), AnyError> {
     tally::try_cases(rt, "contents", &bad_contents::CONTENTS)?;
     tally::try_cases(rt, "block ends", &ends::ENDS)?;
     pages::try_pages(rt)?;
-    fillings::try_fillings(rt)
+    fillings::try_fillings(rt)?;
+    chance::try_chance(rt)
 }
 
 fn main(rt: LibcRuntime) -> Result<(), AnyError> {

@@ -1,7 +1,7 @@
 // Tries a block of which one page, or all from one on, cannot be read: how many items are then met, and which numbers the
 // reader hands out of each item of the block.
 use crate::case::Base;
-use crate::case::Case;
+use crate::case::FIRST;
 use crate::image::BLOCK;
 use crate::image::image;
 use crate::image::lay;
@@ -10,11 +10,6 @@ use encode::filler::filling;
 use nodes::item::Item;
 use nodes::reader::Reader;
 use std::error::AnyError;
-
-// What stands first; padding and a content come behind it.
-const START: Case = Case("", Base::File, (12, 4096), &[], &[]);
-
-const BEHIND: Case = Case("", Base::Plain, (0, 76), &[], &[]);
 
 // The pages up to some past the last item.
 const PAGES: usize = 41;
@@ -108,12 +103,13 @@ fn with_few(rt: &LibcRuntime, block: &[u8], readable: &[bool]) -> Result<(), Any
 
 pub(crate) fn try_pages(rt: &LibcRuntime) -> Result<(), AnyError> {
     println!(rt, "pages")?;
-    let mut block = image(rt.alloc(), &START)?;
+    let mut block = image(rt.alloc(), Base::File, FIRST, &[], &[])?;
     let mut readable = vec![in rt.alloc(); true; BLOCK / 4]?;
     let mut padding = [0xffu8; 16];
     let _ = filling(&mut padding, 56, 72);
     lay(&mut block, 56, &padding);
-    lay(&mut block, 72, &image(rt.alloc(), &BEHIND)?);
+    let behind = image(rt.alloc(), Base::Plain, (0, 76), &[], &[])?;
+    lay(&mut block, 72, &behind);
     lay(&mut block, 148, &[0; 4]);
     show_items(rt, &block, &readable)?;
     without_one(rt, &block, &mut readable)?;

@@ -33,7 +33,7 @@ pub(crate) fn tally<'a>(bytes: &'a [u8], readable: &'a [bool]) -> Met {
 }
 
 // A number that tells blocks apart. The sum of a header and its own sum is always 0, so that sum would not do.
-fn digest(bytes: &[u8]) -> u32 {
+pub(crate) fn digest(bytes: &[u8]) -> u32 {
     let mut all: u32 = 1;
     for b in bytes {
         all = (all ^ *b as u32).wrapping_mul(16777619);
@@ -41,13 +41,18 @@ fn digest(bytes: &[u8]) -> u32 {
     all
 }
 
+// The number of the first offence, 0 where there is none.
+pub(crate) fn offence_number(all: Met) -> u8 {
+    match all.offence {
+        Some(refusal) => refusal.number(),
+        None => 0,
+    }
+}
+
 fn show(rt: &LibcRuntime, label: &str, block: u32, all: Met) -> Result<(), AnyError> {
     let items = all.items;
     let last = all.last;
-    let offence = match all.offence {
-        Some(refusal) => refusal.number(),
-        None => 0,
-    };
+    let offence = offence_number(all);
     println!(
         rt,
         "{label}: block {block:08x}, items {items}, last at {last}, offence {offence}"
@@ -60,8 +65,9 @@ pub(crate) fn try_cases(rt: &LibcRuntime, title: &str, cases: &[Case]) -> Result
     println!(rt, "{title}")?;
     let readable = vec![in rt.alloc(); true; BLOCK / 4]?;
     for case in cases {
-        let block = image(rt.alloc(), case)?;
-        show(rt, case.0, digest(&block), tally(&block, &readable))?;
+        let Case(label, base, spot, edits, flips) = *case;
+        let block = image(rt.alloc(), base, spot, edits, flips)?;
+        show(rt, label, digest(&block), tally(&block, &readable))?;
     }
     Ok(())
 }

@@ -32,7 +32,8 @@ pub(crate) fn show(rt: &LibcRuntime, answer: Result<usize, Refusal>) -> Result<(
     Ok(())
 }
 
-fn done(answer: Result<(), Refusal>) -> Result<usize, Refusal> {
+// What a call that answers nothing is printed as.
+pub(crate) fn done(answer: Result<(), Refusal>) -> Result<usize, Refusal> {
     match answer {
         Ok(()) => Ok(0),
         Err(refusal) => Err(refusal),

@@ -64,7 +64,7 @@ pub(crate) fn try_cuts<F: Flash>(rt: &LibcRuntime, flash: &mut F) -> Result<(), 
 }
 
 // The second arming replaces the first; steps are counted over programs, erases and blocks.
-pub(crate) static COUNTS: [Call; 41] = [
+pub(crate) static COUNTS: [Call; 43] = [
     Call::Erase(0),
     Call::Arm(0, 0x01),
     Call::Arm(2, 0x80),
@@ -104,8 +104,10 @@ pub(crate) static COUNTS: [Call; 41] = [
     Call::Program(0, 0, 0, 8),
     Call::Look(0),
     // a whole block is 1024 steps
+    Call::Erase(2),
     Call::Arm(1024, 0),
     Call::Program(0, 2, 0, 4096),
+    Call::Mark(2),
     Call::Erase(2),
     Call::Restart,
 ];

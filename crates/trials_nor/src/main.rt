@@ -1,7 +1,9 @@
 // Trials of the NOR chip: what it refuses and in which order, and what a cut of the power leaves. The file `stdout` is written
 // by the model, which knows nothing of this code.
 mod call;
+mod chance;
 mod cuts;
+mod random;
 mod refusals;
 mod sizes;
 
@@ -18,7 +20,8 @@ fn run(rt: &LibcRuntime) -> Result<(), AnyError> {
     call::try_calls(rt, &mut chip, "refusals", &refusals::REFUSALS)?;
     call::try_calls(rt, &mut chip, "without power", &refusals::WITHOUT_POWER)?;
     cuts::try_cuts(rt, &mut chip)?;
-    call::try_calls(rt, &mut chip, "counts", &cuts::COUNTS)
+    call::try_calls(rt, &mut chip, "counts", &cuts::COUNTS)?;
+    chance::try_chance(rt, &mut chip)
 }
 
 fn main(rt: LibcRuntime) -> Result<(), AnyError> {

@@ -3,7 +3,7 @@ use crate::call::Call;
 
 const FAR: usize = 0xffffffffffffffff;
 
-pub(crate) static REFUSALS: [Call; 75] = [
+pub(crate) static REFUSALS: [Call; 76] = [
     // the memory begins as zeros: every block is full
     Call::Mark(0),
     Call::Mark(3),
@@ -65,6 +65,7 @@ pub(crate) static REFUSALS: [Call; 75] = [
     Call::Program(0, 0, 0, 0),
     Call::Program(0, 0, 12, 4),
     // words of ff do not raise the mark; a word with one other byte does
+    Call::Erase(2),
     Call::Program(255, 2, 0, 8),
     Call::Mark(2),
     Call::Program(0, 2, 4, 4),
