@@ -23,8 +23,8 @@ fn near<F: Flash>(flash: &F, random: &mut Random, block: usize) -> Place {
     let up = match random.below(8) {
         0 => random.below(4097),
         1 => random.below(4),
-        2 => 4 * random.below(1000),
-        _ => 4 * random.below(2),
+        2 => random.below(1000).saturating_mul(4),
+        _ => random.below(2).saturating_mul(4),
     };
     let down = match random.below(8) {
         0 => 4,
@@ -63,7 +63,7 @@ fn write<F: Flash>(
         0 => 1,
         _ => 0,
     };
-    let n = (4 * random.below(9) + more) as usize;
+    let n = random.below(9).saturating_mul(4).saturating_add(more) as usize;
     Ok(code(program(rt, flash, bits, at, n)?))
 }
 
