@@ -1,4 +1,4 @@
-"""The cases of the trials, the same as in the crates trials_nodes and trials_nor."""
+"""The cases of the trials, the same as in the crates trials_parts, trials_nodes and trials_nor."""
 
 # Of each: what to call it, what stands there, its place and the block's length, words to write at offsets from the place
 # before the sums are made right, and bits to flip in words after that.

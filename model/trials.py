@@ -1,7 +1,7 @@
 """The expected tables of the trials, from the rules alone.
 
 An independent model: it reads nothing of the crates. `python3 model/trials.py nodes` prints the table of trials_nodes,
-`python3 model/trials.py nor` that of trials_nor.
+and likewise parts that of trials_parts and nor that of trials_nor.
 """
 
 import sys
@@ -289,7 +289,7 @@ def print_fillings():
             filling = header(PADDING, n) + bytes(n - 12) if n >= 12 else bytes(n)
             if n % 4 or n > room:
                 filling = None
-        said = "refused" if filling is None else f"{len(filling)} bytes"
+        said = "None" if filling is None else f"Some({len(filling)})"
         out = (filling or b"") + b"\xff" * (room - len(filling or b""))
         print(f"end {end}, batch {batch}, room {room}: {said}, digest {digest(out):08x}")
 
@@ -562,17 +562,20 @@ def print_cuts(chip):
                 print(f"cut {what} n={n} j={j:02x}{said},{looked(chip, 0)}, mark{answer(chip.mark, 0)}")
 
 
-# --- the two tables ---------------------------------------------------------------------------------------------------
+# --- the three tables --------------------------------------------------------------------------------------------------
+
+
+def parts():
+    print_sums()
+    print_fillings()
+    print_pages()
 
 
 def nodes():
-    print_sums()
     print_cases("headers", HEADERS)
     print_cases("entries", ENTRIES)
     print_cases("contents", CONTENTS)
     print_cases("block ends", ENDS)
-    print_pages()
-    print_fillings()
     print_random_changes()
 
 
@@ -587,4 +590,4 @@ def nor():
 
 
 if __name__ == "__main__":
-    {"nodes": nodes, "nor": nor}[sys.argv[1]]()
+    {"parts": parts, "nodes": nodes, "nor": nor}[sys.argv[1]]()

@@ -76,6 +76,16 @@ fn turn(rt: &LibcRuntime, random: &mut Random, seen: Seen) -> Result<Seen, AnyEr
     })
 }
 
+fn show(rt: &LibcRuntime, i: u32, seen: Seen) -> Result<(), AnyError> {
+    let Seen {
+        all,
+        items,
+        offences,
+    } = seen;
+    println!(rt, "{i}: {all:08x}, items {items}, offences {offences}")?;
+    Ok(())
+}
+
 pub(crate) fn try_chance(rt: &LibcRuntime) -> Result<(), AnyError> {
     println!(rt, "random changes")?;
     let mut random = Random { state: 7 };
@@ -87,12 +97,7 @@ pub(crate) fn try_chance(rt: &LibcRuntime) -> Result<(), AnyError> {
     for i in 0..1000u32 {
         seen = turn(rt, &mut random, seen)?;
         if i % 50 == 49 {
-            let Seen {
-                all,
-                items,
-                offences,
-            } = seen;
-            println!(rt, "{i}: {all:08x}, items {items}, offences {offences}")?;
+            show(rt, i, seen)?;
         }
     }
     Ok(())

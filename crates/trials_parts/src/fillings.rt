@@ -1,10 +1,10 @@
 // Tries what fills a block from its end up to the end of a batch.
-use crate::tally::digest;
+use crate::digest::digest_of;
 use encode::filler::filling;
 use std::error::AnyError;
 
 // The end, the batch and the room.
-const FILLINGS: [(usize, usize, usize); 16] = [
+static FILLINGS: [(usize, usize, usize); 16] = [
     (500, 512, 600),
     (504, 512, 600),
     (508, 512, 600),
@@ -23,16 +23,22 @@ const FILLINGS: [(usize, usize, usize); 16] = [
     (500, 0, 600),
 ];
 
+// What was made, and a digest of the room.
+fn show(rt: &LibcRuntime, end: usize, batch: usize, room: usize) -> Result<(), AnyError> {
+    let mut out = vec![in rt.alloc(); 0xffu8; room]?;
+    let n = filling(&mut out, end, batch);
+    let all = digest_of(&out);
+    println!(
+        rt,
+        "end {end}, batch {batch}, room {room}: {n:?}, digest {all:08x}"
+    )?;
+    Ok(())
+}
+
 pub(crate) fn try_fillings(rt: &LibcRuntime) -> Result<(), AnyError> {
     println!(rt, "fillings")?;
-    for (end, batch, room) in FILLINGS {
-        let mut out = vec![in rt.alloc(); 0xffu8; room]?;
-        match filling(&mut out, end, batch) {
-            Some(n) => print!(rt, "end {end}, batch {batch}, room {room}: {n} bytes,")?,
-            None => print!(rt, "end {end}, batch {batch}, room {room}: refused,")?,
-        }
-        let all = digest(&out);
-        println!(rt, " digest {all:08x}")?;
+    for (end, batch, room) in &FILLINGS {
+        show(rt, *end, *batch, *room)?;
     }
     Ok(())
 }

@@ -1,15 +1,35 @@
 // Tries a block of which one page, or all from one on, cannot be read: how many items are then met, and which numbers the
 // reader hands out of each item of the block.
-use crate::case::Base;
-use crate::case::FIRST;
-use crate::image::BLOCK;
-use crate::image::image;
-use crate::image::lay;
-use crate::tally::tally;
 use encode::filler::filling;
+use encode::filler::marker;
+use encode::node::encode_content;
+use encode::node::encode_entry;
 use nodes::item::Item;
 use nodes::reader::Reader;
+use nodes::record::Content;
+use nodes::record::Entry;
 use std::error::AnyError;
+
+const BLOCK: usize = 4096;
+
+static ENTRY: Entry<'static> = Entry {
+    pino: 1,
+    version: 3,
+    ino: 2,
+    dtype: 8,
+    name: b"ab",
+};
+
+static CONTENT: Content<'static> = Content {
+    ino: 2,
+    version: 4,
+    mode: 33188,
+    isize: 1000,
+    offset: 100,
+    dsize: 5,
+    compr: 0,
+    payload: b"hello",
+};
 
 // The pages up to some past the last item.
 const PAGES: usize = 41;
@@ -73,13 +93,23 @@ fn show_items<'a>(rt: &LibcRuntime, block: &'a [u8], readable: &'a [bool]) -> Re
     Ok(())
 }
 
+// How many items a walk meets.
+fn count<'a>(block: &'a [u8], readable: &'a [bool]) -> usize {
+    let mut items: usize = 0;
+    let mut reader = Reader::new(0, block, readable);
+    while let Some(_found) = reader.next() {
+        items = items.saturating_add(1);
+    }
+    items
+}
+
 // For each page: how many items are met if it alone cannot be read.
 fn without_one(rt: &LibcRuntime, block: &[u8], readable: &mut [bool]) -> Result<(), AnyError> {
     print!(rt, "items without page 0, 1, ..:")?;
     for page in 0..PAGES {
         if page < readable.len() {
             readable[page] = false;
-            let items = tally(block, readable).items;
+            let items = count(block, readable);
             print!(rt, " {items}")?;
             readable[page] = true;
         }
@@ -93,7 +123,7 @@ fn with_few(rt: &LibcRuntime, block: &[u8], readable: &[bool]) -> Result<(), Any
     print!(rt, "items with flags for 0, 1, .. pages:")?;
     for pages in 0..PAGES {
         if pages <= readable.len() {
-            let items = tally(block, &readable[..pages]).items;
+            let items = count(block, &readable[..pages]);
             print!(rt, " {items}")?;
         }
     }
@@ -101,16 +131,23 @@ fn with_few(rt: &LibcRuntime, block: &[u8], readable: &[bool]) -> Result<(), Any
     Ok(())
 }
 
+// Lays the marker, an entry, padding, a content and a zero word into a block.
+fn lay_items(block: &mut [u8]) {
+    if block.len() < 152 {
+        return;
+    }
+    let _ = marker(block);
+    let _ = encode_entry(&ENTRY, &mut block[12..]);
+    let _ = filling(&mut block[56..], 56, 72);
+    let _ = encode_content(&CONTENT, &mut block[72..]);
+    block[148..152].fill(0);
+}
+
 pub(crate) fn try_pages(rt: &LibcRuntime) -> Result<(), AnyError> {
     println!(rt, "pages")?;
-    let mut block = image(rt.alloc(), Base::File, FIRST, &[], &[])?;
+    let mut block = vec![in rt.alloc(); 0xffu8; BLOCK]?;
+    lay_items(&mut block);
     let mut readable = vec![in rt.alloc(); true; BLOCK / 4]?;
-    let mut padding = [0xffu8; 16];
-    let _ = filling(&mut padding, 56, 72);
-    lay(&mut block, 56, &padding);
-    let behind = image(rt.alloc(), Base::Plain, (0, 76), &[], &[])?;
-    lay(&mut block, 72, &behind);
-    lay(&mut block, 148, &[0; 4]);
     show_items(rt, &block, &readable)?;
     without_one(rt, &block, &mut readable)?;
     with_few(rt, &block, &readable)

@@ -3,6 +3,14 @@ use std::alloc::AllocError;
 use std::alloc::Global;
 use std::error::AnyError;
 
+static SHORT: [(&str, &[u8]); 5] = [
+    ("nothing", b""),
+    ("00", &[0x00]),
+    ("01", &[0x01]),
+    ("80", &[0x80]),
+    ("123456789", b"123456789"),
+];
+
 // The bytes 0 to 255.
 fn rising(heap: Global) -> Result<Vec<u8>, AllocError> {
     let mut all = Vec::new(heap);
@@ -29,14 +37,19 @@ fn show(rt: &LibcRuntime, label: &str, bytes: &[u8]) -> Result<(), AnyError> {
     Ok(())
 }
 
-pub(crate) fn try_sums(rt: &LibcRuntime) -> Result<(), AnyError> {
+fn try_long(rt: &LibcRuntime) -> Result<(), AnyError> {
     let heap = rt.alloc();
-    show(rt, "nothing", b"")?;
-    show(rt, "00", &[0x00])?;
-    show(rt, "01", &[0x01])?;
-    show(rt, "80", &[0x80])?;
-    show(rt, "123456789", b"123456789")?;
-    show(rt, "0 to 255", &rising(heap)?)?;
-    show(rt, "4096 bytes ff", &vec![in heap; 0xffu8; 4096]?)?;
-    show(rt, "1000 random bytes", &random(heap, 1000)?)
+    let all = rising(heap)?;
+    show(rt, "0 to 255", &all)?;
+    let blank = vec![in heap; 0xffu8; 4096]?;
+    show(rt, "4096 bytes ff", &blank)?;
+    let mixed = random(heap, 1000)?;
+    show(rt, "1000 random bytes", &mixed)
+}
+
+pub(crate) fn try_sums(rt: &LibcRuntime) -> Result<(), AnyError> {
+    for (label, bytes) in &SHORT {
+        show(rt, *label, *bytes)?;
+    }
+    try_long(rt)
 }
