@@ -114,7 +114,7 @@ fn change(item: &mut [u8], edits: &[(usize, u32)], flips: &[(usize, u32)]) {
 // A block with the item of a base at a place, where zero words lead from the marker to it.
 fn with_base(heap: Global, base: Base, place: usize) -> Result<Vec<u8>, AllocError> {
     let mut block = vec![in heap; 0xffu8; BLOCK]?;
-    let mut run = vec![in heap; 0u8; 1024]?;
+    let mut run = vec![in heap; 0xffu8; 1024]?;
     if !matches!(base, Base::Blank) {
         let _ = marker(&mut block);
     }

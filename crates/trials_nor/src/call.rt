@@ -86,28 +86,35 @@ pub(crate) fn look<F: Flash>(
 // Asks one call, and prints it with its answer.
 fn ask<F: Flash>(rt: &LibcRuntime, flash: &mut F, call: Call) -> Result<(), AnyError> {
     let answer = match call {
-        Call::Read(block, offset, n) => {
-            print!(rt, "read {block} {offset} {n}")?;
-            read(rt, flash, Place { block, offset }, n)?
-        }
-        Call::Program(bits, block, offset, n) => {
-            print!(rt, "program {block} {offset} {n}")?;
-            program(rt, flash, bits, Place { block, offset }, n)?
-        }
-        Call::Look(block) => {
-            print!(rt, "look {block}:")?;
-            look(rt, flash, block)?
-        }
-        Call::Restart => {
-            print!(rt, "restart")?;
-            flash.restart();
-            Ok(0)
-        }
-        other => ask_short(rt, flash, other)?,
+        Call::Read(..) | Call::Program(..) | Call::Look(_) => ask_long(rt, flash, call)?,
+        _ => ask_short(rt, flash, call)?,
     };
     show(rt, answer)?;
     println!(rt, "")?;
     Ok(())
+}
+
+// Asks a call with bytes.
+fn ask_long<F: Flash>(
+    rt: &LibcRuntime,
+    flash: &mut F,
+    call: Call,
+) -> Result<Result<usize, Refusal>, AnyError> {
+    match call {
+        Call::Read(block, offset, n) => {
+            print!(rt, "read {block} {offset} {n}")?;
+            read(rt, flash, Place { block, offset }, n)
+        }
+        Call::Program(bits, block, offset, n) => {
+            print!(rt, "program {block} {offset} {n}")?;
+            program(rt, flash, bits, Place { block, offset }, n)
+        }
+        Call::Look(block) => {
+            print!(rt, "look {block}:")?;
+            look(rt, flash, block)
+        }
+        _ => Ok(Ok(0)),
+    }
 }
 
 // Asks a call without bytes.
@@ -128,6 +135,11 @@ fn ask_short<F: Flash>(
         Call::Arm(steps, fault) => {
             print!(rt, "arm {steps} {fault:02x}")?;
             Ok(done(flash.arm(steps, fault)))
+        }
+        Call::Restart => {
+            print!(rt, "restart")?;
+            flash.restart();
+            Ok(Ok(0))
         }
         _ => Ok(Ok(0)),
     }

@@ -1,5 +1,6 @@
 // Cuts of the power at each step of a program and of an erase, with several faults.
 use crate::call::Call;
+use crate::call::done;
 use crate::call::look;
 use crate::call::program;
 use crate::call::show;
@@ -41,10 +42,7 @@ fn cut_erase<F: Flash>(rt: &LibcRuntime, flash: &mut F, n: usize, j: u8) -> Resu
     let _ = flash.erase(0);
     let _ = program(rt, flash, 0, START, 20)?;
     let _ = flash.arm(n, j);
-    match flash.erase(0) {
-        Ok(()) => show(rt, Ok(0))?,
-        Err(refusal) => show(rt, Err(refusal))?,
-    }
+    show(rt, done(flash.erase(0)))?;
     after(rt, flash)
 }
 
@@ -55,6 +53,10 @@ pub(crate) fn try_cuts<F: Flash>(rt: &LibcRuntime, flash: &mut F) -> Result<(), 
             cut_program(rt, flash, n, *j)?;
         }
     }
+    Ok(())
+}
+
+pub(crate) fn try_erases<F: Flash>(rt: &LibcRuntime, flash: &mut F) -> Result<(), AnyError> {
     for n in 0..2 {
         for j in &FAULTS {
             cut_erase(rt, flash, n, *j)?;

@@ -20,6 +20,7 @@ fn run(rt: &LibcRuntime) -> Result<(), AnyError> {
     call::try_calls(rt, &mut chip, "refusals", &refusals::REFUSALS)?;
     call::try_calls(rt, &mut chip, "without power", &refusals::WITHOUT_POWER)?;
     cuts::try_cuts(rt, &mut chip)?;
+    cuts::try_erases(rt, &mut chip)?;
     call::try_calls(rt, &mut chip, "counts", &cuts::COUNTS)?;
     chance::try_chance(rt, &mut chip)
 }

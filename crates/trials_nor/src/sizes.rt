@@ -2,6 +2,8 @@
 use devices::nor::Nor;
 use devices::nor::NorFlash;
 use flash::interface::Flash;
+use std::alloc::AllocError;
+use std::alloc::Global;
 use std::error::AnyError;
 
 static SIZES: [usize; 12] = [
@@ -19,21 +21,23 @@ static SIZES: [usize; 12] = [
     69632,
 ];
 
+// How many blocks a chip in so many bytes has; or the number of the refusal, and how many bytes came back.
+fn tried(heap: Global, n: usize) -> Result<Result<usize, (u8, usize)>, AllocError> {
+    let mut memory = vec![in heap; 0u8; n]?;
+    match Nor::new(&mut memory) {
+        Ok(chip) => Ok(Ok(chip.shape().blocks)),
+        Err((refusal, back)) => Ok(Err((refusal.number(), back.len()))),
+    }
+}
+
 pub(crate) fn try_sizes(rt: &LibcRuntime) -> Result<(), AnyError> {
-    for size in &SIZES {
-        let n = *size;
-        let mut memory = vec![in rt.alloc(); 0u8; n]?;
-        match Nor::new(&mut memory) {
-            Ok(chip) => {
-                let blocks = chip.shape().blocks;
-                println!(rt, "memory of {n} bytes: {blocks} blocks")?;
-            }
-            Err((refusal, back)) => {
-                let number = refusal.number();
-                let returned = back.len();
+    for n in &SIZES {
+        match tried(rt.alloc(), *n)? {
+            Ok(blocks) => println!(rt, "memory of {n} bytes: {blocks} blocks")?,
+            Err((number, back)) => {
                 println!(
                     rt,
-                    "memory of {n} bytes: refused {number}, {returned} bytes back"
+                    "memory of {n} bytes: refused {number}, {back} bytes back"
                 )?;
             }
         }
