@@ -1,0 +1,4 @@
+pub mod Leaving
+pub mod Keeping
+pub mod Fairness
+pub mod Computed

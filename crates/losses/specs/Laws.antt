@@ -1,0 +1,76 @@
+-- What holds of losses: of rows of cells, and of a flash m that is n after the loss. Assumes nothing.
+--
+-- Rows-left         a fair loss leaves the first items that were to stand
+-- Rows-kept         and all that lie in a first part of the cells that is as it was to be
+-- Nothing-lost      where all can be read and nothing is lost, the loss is fair
+-- Lost              the items of the list are those of the walk of what was to stand, and a fair loss leaves the first of them
+-- Program-loss      a program of items fails that were to follow those of the block: a fair loss leaves the first of all these;
+--                   those in batches that end where the program begins, or before, are kept if these were settled
+-- Opening-loss      the same of a blank block on which the marker and items were to be laid
+-- Erase-loss        an erase fails: a fair loss leaves the first items of each block; where the block is not the one erased,
+--                   all that lie before the batch with the held bytes are kept
+-- Restart-loss      held bytes are lost in a restart: the same
+-- Program-finishes  a program that is done settles the batches that end where it ends, or before
+-- Held-finished     on every flash all batches before the one with the held bytes are settled
+use mathlib.Core.Path.{_≡_}
+use mathlib.Core.List.{List, [], _∷_, _++_}
+use Prim.Native.Nat.{ℕ, _+_, _≤_, _<_}
+use lib.ListN.{length, take}
+use Rattle.std.specs.declared.option.Option.the-variants.{None}
+use Rattle.flash.specs.Cells.{Cell, cells, blank}
+use Rattle.flash.specs.Meaning.{Meaning, Sane, batch-end}
+use Rattle.flash.specs.Refused.{program-refusal}
+use Rattle.flash.specs.Rules.{Answer, meant, Passed, Failed, Erased, Restarted}
+use Rattle.nodes.specs.Items.{Item}
+use Rattle.nodes.specs.Walk.{walk, marker}
+use Rattle.encode.specs.Laid.{All-well-formed, run, placed, Ends}
+use Rattle.losses.specs.Fair.{Fair}
+use Rattle.losses.specs.Left.{Left, Kept, Finished}
+
+-- ─── rows of cells ───
+
+abbrev pub Rows-left : Type 0
+Rows-left = (want got : List Cell) → length want ≡ length got → Fair want (walk want) got → Left (walk want) (walk got)
+
+abbrev pub Rows-kept : Type 0
+Rows-kept = (want got : List Cell) (k : ℕ) → length want ≡ length got → take k want ≡ take k got → Kept k (walk want) (walk got)
+
+abbrev pub Nothing-lost : Type 0
+Nothing-lost = (bs : List ℕ) → Fair (cells bs) (walk (cells bs)) (cells bs)
+
+-- ─── flash ───
+
+abbrev pub Lost : List Cell → List (ℕ × Item) → List Cell → Type 0
+Lost want list got = (walk want ≡ list) × (Fair want list got → Left list (walk got))
+
+abbrev pub Program-loss : Type 0
+Program-loss =
+    (m n : Meaning) (b e : ℕ) (its : List Item) → Sane m → program-refusal m b e (length (run its)) ≡ None → Failed m b e (run its) n
+    → 12 ≤ e → Ends (m .shown b) e → All-well-formed its
+    → Lost (meant m b e (run its)) (walk (m .shown b) ++ placed e its) (n .settled b)
+    × (Finished m b e → Kept (batch-end m e) (walk (m .shown b) ++ placed e its) (walk (n .settled b)))
+
+abbrev pub Opening-loss : Type 0
+Opening-loss =
+    (m n : Meaning) (b : ℕ) (its : List Item) → Sane m → program-refusal m b 0 (length (run (marker ∷ its))) ≡ None → Failed m b 0 (run (marker ∷ its)) n
+    → m .shown b ≡ blank (m .size) → All-well-formed its
+    → Lost (meant m b 0 (run (marker ∷ its))) (walk (m .shown b) ++ placed 0 (marker ∷ its)) (n .settled b)
+
+abbrev pub Erase-loss : Type 0
+Erase-loss =
+    (m n : Meaning) (b : ℕ) (r : Answer) (s : Sane m) → Erased m b r n → (i : ℕ) → i < m .blocks
+    → Lost (m .shown i) (walk (m .shown i)) (n .settled i)
+    × ((i ≡ b → ⊥) → Kept (batch-end m (s .held-end)) (walk (m .shown i)) (walk (n .settled i)))
+
+abbrev pub Restart-loss : Type 0
+Restart-loss =
+    (m n : Meaning) (s : Sane m) → Restarted m n → (b : ℕ) → b < m .blocks
+    → Lost (m .shown b) (walk (m .shown b)) (n .settled b)
+    × Kept (batch-end m (s .held-end)) (walk (m .shown b)) (walk (n .settled b))
+
+abbrev pub Program-finishes : Type 0
+Program-finishes =
+    (m n : Meaning) (b o : ℕ) (bs : List ℕ) → Sane m → program-refusal m b o (length bs) ≡ None → Passed m b o bs n → Finished n b (o + length bs)
+
+abbrev pub Held-finished : Type 0
+Held-finished = (m : Meaning) (s : Sane m) (b : ℕ) → b < m .blocks → Finished m b (s .held-end)

@@ -1,0 +1,4 @@
+pub mod Fair
+pub mod Left
+pub mod Laws
+pub mod Examples
