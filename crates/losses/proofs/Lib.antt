@@ -2,3 +2,4 @@ pub mod Leaving
 pub mod Keeping
 pub mod Fairness
 pub mod Computed
+pub mod Failures

@@ -1,15 +1,17 @@
 -- What holds of losses: of rows of cells, and of a flash m that is n after the loss. Assumes nothing.
 --
 -- Rows-left         a fair loss leaves the first items that were to stand
--- Rows-kept         and all that lie in a first part of the cells that is as it was to be
+-- Rows-kept         and whatever was lost, those in a first part of the cells that is as it was to be are kept
 -- Nothing-lost      where all can be read and nothing is lost, the loss is fair
 -- Lost              the items of the list are those of the walk of what was to stand, and a fair loss leaves the first of them
 -- Program-loss      a program of items fails that were to follow those of the block: a fair loss leaves the first of all these;
---                   those in batches that end where the program begins, or before, are kept if these were settled
--- Opening-loss      the same of a blank block on which the marker and items were to be laid
+--                   if the batches that end where the program begins, or before, were settled, the items in them are kept
+-- Synced-kept       if such a batch ends just there, all items that stood before the program are kept
+-- Opening-loss      a blank block on which the marker and items were to be laid
+-- Program-spares    a program that fails loses nothing in other blocks
 -- Erase-loss        an erase fails: a fair loss leaves the first items of each block; where the block is not the one erased,
---                   all that lie before the batch with the held bytes are kept
--- Restart-loss      held bytes are lost in a restart: the same
+--                   the items in batches that were settled are kept
+-- Restart-loss      held bytes are lost in a restart: a fair loss leaves the first items, and those in settled batches are kept
 -- Program-finishes  a program that is done settles the batches that end where it ends, or before
 -- Held-finished     on every flash all batches before the one with the held bytes are settled
 use mathlib.Core.Path.{_≡_}
@@ -25,7 +27,7 @@ use Rattle.nodes.specs.Items.{Item}
 use Rattle.nodes.specs.Walk.{walk, marker}
 use Rattle.encode.specs.Laid.{All-well-formed, run, placed, Ends}
 use Rattle.losses.specs.Fair.{Fair}
-use Rattle.losses.specs.Left.{Left, Kept, Finished}
+use Rattle.losses.specs.Left.{First-part, nodes-of, Left, Kept, Finished}
 
 -- ─── rows of cells ───
 
@@ -50,23 +52,34 @@ Program-loss =
     → Lost (meant m b e (run its)) (walk (m .shown b) ++ placed e its) (n .settled b)
     × (Finished m b e → Kept (batch-end m e) (walk (m .shown b) ++ placed e its) (walk (n .settled b)))
 
+abbrev pub Synced-kept : Type 0
+Synced-kept =
+    (m n : Meaning) (b e : ℕ) (bs : List ℕ) → Sane m → program-refusal m b e (length bs) ≡ None → Failed m b e bs n
+    → 12 ≤ e → Ends (m .shown b) e → Finished m b e → batch-end m e ≡ e
+    → First-part (walk (m .shown b)) (walk (n .settled b)) × First-part (nodes-of (walk (m .shown b))) (nodes-of (walk (n .settled b)))
+
 abbrev pub Opening-loss : Type 0
 Opening-loss =
     (m n : Meaning) (b : ℕ) (its : List Item) → Sane m → program-refusal m b 0 (length (run (marker ∷ its))) ≡ None → Failed m b 0 (run (marker ∷ its)) n
     → m .shown b ≡ blank (m .size) → All-well-formed its
     → Lost (meant m b 0 (run (marker ∷ its))) (walk (m .shown b) ++ placed 0 (marker ∷ its)) (n .settled b)
 
+abbrev pub Program-spares : Type 0
+Program-spares =
+    (m n : Meaning) (b o : ℕ) (bs : List ℕ) → program-refusal m b o (length bs) ≡ None → Failed m b o bs n
+    → (i : ℕ) → i < m .blocks → (i ≡ b → ⊥) → n .settled i ≡ m .shown i
+
 abbrev pub Erase-loss : Type 0
 Erase-loss =
-    (m n : Meaning) (b : ℕ) (r : Answer) (s : Sane m) → Erased m b r n → (i : ℕ) → i < m .blocks
+    (m n : Meaning) (b : ℕ) (r : Answer) → Sane m → Erased m b r n → (i : ℕ) → i < m .blocks
     → Lost (m .shown i) (walk (m .shown i)) (n .settled i)
-    × ((i ≡ b → ⊥) → Kept (batch-end m (s .held-end)) (walk (m .shown i)) (walk (n .settled i)))
+    × ((e : ℕ) → (i ≡ b → ⊥) → Finished m i e → Kept (batch-end m e) (walk (m .shown i)) (walk (n .settled i)))
 
 abbrev pub Restart-loss : Type 0
 Restart-loss =
-    (m n : Meaning) (s : Sane m) → Restarted m n → (b : ℕ) → b < m .blocks
+    (m n : Meaning) → Sane m → Restarted m n → (b : ℕ) → b < m .blocks
     → Lost (m .shown b) (walk (m .shown b)) (n .settled b)
-    × Kept (batch-end m (s .held-end)) (walk (m .shown b)) (walk (n .settled b))
+    × ((e : ℕ) → Finished m b e → Kept (batch-end m e) (walk (m .shown b)) (walk (n .settled b)))
 
 abbrev pub Program-finishes : Type 0
 Program-finishes =
