@@ -2,3 +2,4 @@ pub mod Fair
 pub mod Left
 pub mod Laws
 pub mod Examples
+pub mod Compared

@@ -1,16 +1,20 @@
-use Rattle.losses.proofs.Leaving.{left}
+use mathlib.Core.Path.{sym, _∙_}
+use Rattle.nodes.specs.Seen.{seen}
+use Rattle.losses.proofs.Leaving as leaving
 use Rattle.losses.proofs.Keeping.{keeps}
 use Rattle.losses.proofs.Fairness.{nothing-lost}
+use Rattle.losses.proofs.Lockstep.{fair-left}
 use Rattle.losses.proofs.Computed.{computed}
 use Rattle.losses.proofs.Failures as failures
-use Rattle.losses.proofs.laws.Needs as need
+use Rattle.losses.proofs.fair.is_fair.Needs as need
 
 pub returns : need.returns
 returns c = record {
-  left = left;
+  answer = c .decide .ensures;
+  left = λ e. fair-left (seen (c .args .want-flags .now) (c .args .want .now)) (seen (c .args .got-flags .now) (c .args .got .now)) (sym (c .decide .ensures) ∙ e);
+  rows = leaving.left;
   kept = λ want got k l e. keeps want got l k e;
   nothing = nothing-lost;
-  examples = computed;
   program = failures.program-loss;
   synced = failures.synced-kept;
   opening = failures.opening-loss;
@@ -19,4 +23,5 @@ returns c = record {
   restart = failures.restart-loss;
   finishes = failures.program-finishes;
   held = failures.held-finished;
+  examples = computed;
 }
