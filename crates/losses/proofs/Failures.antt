@@ -2,7 +2,7 @@
 use mathlib.Core.Path.{_≡_, refl, sym, ap, subst, _∙_}
 use mathlib.Core.Bool.{Bool, true, false, cond, not}
 use mathlib.Core.Logic.{⊎-elim}
-use mathlib.Core.List.{List, [], _∷_, _++_}
+use mathlib.Core.List.{List, [], _∷_, _++_, append-nil}
 use Prim.Native.Nat.{ℕ, zero, suc, _+_, _-_, _*_, _/_, _%_, _≤_, _<_}
 use native.Mathlib.Nat.{div-add-mod', div-mul-le-self, lt-of-mul-lt-mul-right, mul-le-mul-right}
 use native.Mathlib.Omega.{arith}
@@ -17,23 +17,24 @@ use Rattle.flash.specs.Refused.{program-refusal, same-cell, same-cells, holds, 
 use Rattle.flash.specs.Rules.{Answer, Spoilt, bytes, unreadable, Concerned, had, takes, Torn, Passed, Failed, Erased, refused, done, failed, Restarted, meant, programmed, broken, erased, restarted}
 use Rattle.flash.proofs.Over.{here, elsewhere, over-length, over-front}
 use Rattle.flash.proofs.Refusals.{Accepted, accepted}
-use Rattle.nodes.specs.Items.{Item}
+use Rattle.nodes.specs.Items.{Item, size}
 use Rattle.nodes.specs.Walk.{walk-in, walk-from, walk, marked, marker, end-of}
-use Rattle.nodes.proofs.Walks.{none-at}
-use Rattle.nodes.proofs.Marks.{marked-cells, cells-marked, walk-marked, walk-bare}
+use Rattle.nodes.proofs.Walks.{item-at, none-at}
+use Rattle.nodes.proofs.Marks.{marked-cells, cells-marked, marker-stands, marker-size, walk-marked, walk-bare}
 use Rattle.encode.specs.Laid.{All-well-formed, run, placed, Ends}
-use Rattle.encode.proofs.Laying.{appends, opens, before, blank-none, same-part}
+use Rattle.encode.proofs.Laying.{appends, opens, before, blank-none, end-grows, same-part}
 use Rattle.losses.specs.Fair.{Fair}
-use Rattle.losses.specs.Left.{First-part, nodes-of, Left, Kept, Finished}
-use Rattle.losses.specs.Laws.{Lost, Program-loss, Synced-kept, Opening-loss, Program-spares, Erase-loss, Restart-loss, Program-finishes, Held-finished}
-use Rattle.losses.proofs.Leaving.{left, first-nodes}
+use Rattle.losses.specs.Laws as cut
+use Rattle.losses.specs.Left.{First-part, Leading, Kept, Finished, Synced}
+use Rattle.losses.specs.Laws.{Lost, Program-loss, Opening-loss, Program-spares, Erase-loss, Restart-loss, Synced-kept, Program-finishes, Held-finished, Restart-shows}
+use Rattle.losses.proofs.Leaving.{left, leading}
 use Rattle.losses.proofs.Keeping.{keeps}
 
 -- ─── rows of which the walk is known ───
 
 lost-of : (want got : List Cell) (list : List (ℕ × Item)) → length want ≡ length got → walk want ≡ list → Lost want list got
 lost-of want got list l w =
-    (w, λ f. subst (λ (i : List (ℕ × Item)). Left i (walk got)) w (left want got l (subst (λ (i : List (ℕ × Item)). Fair want i got) (sym w) f)))
+    (w, λ f. subst (λ (i : List (ℕ × Item)). Leading (walk got) i) w (left want got l (subst (λ (i : List (ℕ × Item)). Fair want i got) (sym w) f)))
 
 kept-of : (want got : List Cell) (k : ℕ) (list : List (ℕ × Item)) → length want ≡ length got → walk want ≡ list → take k want ≡ take k got → Kept k list (walk got)
 kept-of want got k list l w e = subst (λ (i : List (ℕ × Item)). Kept k i (walk got)) w (keeps want got l k e)
@@ -45,15 +46,24 @@ blank-walk n = go (marked (blank n)) refl
     go false t = walk-bare _ t
     go true t = walk-marked _ t ∙ none-at _ 0 (blank-none n)
 
--- the items of a block stand in every block that is the same up to their end
-same-start : (xs ys : List Cell) (e : ℕ) → length xs ≡ length ys → 12 ≤ e → end-of 0 (walk xs) ≡ e → take e xs ≡ take e ys → First-part (walk xs) (walk ys)
+-- a block with the marker ends at twelve or later
+end-marked : (xs : List Cell) → marked xs ≡ true → 12 ≤ end-of 0 (walk-from xs 0)
 unfolding walk-from
-same-start xs ys e l h n s = go (marked xs) refl
+end-marked xs t =
+    let a = ap (end-of 0) (item-at xs 0 marker (marker-stands xs t)) in
+    let b = end-grows (length xs) xs (0 + size marker) in
+    omega (arith, marker-size)
+
+-- the items of a block stand in every block that is the same up to their end
+same-start : (xs ys : List Cell) (e : ℕ) → length xs ≡ length ys → end-of 0 (walk xs) ≡ e → take e xs ≡ take e ys → Leading (walk xs) (walk ys)
+unfolding walk-from
+same-start xs ys e l n s = leading (walk xs) (walk ys) (go (marked xs) refl)
   where
     go : (b : Bool) → marked xs ≡ b → First-part (walk xs) (walk ys)
     go false t = (walk ys, ap (λ i. i ++ walk ys) (sym (walk-bare xs t)))
     go true t =
         let w = walk-marked xs t in
+        let h : 12 ≤ e = omega (arith, end-marked xs t, ap (end-of 0) w, n) in
         let t′ = cells-marked ys (sym (same-part e xs ys s 0 12 (omega arith)) ∙ marked-cells xs t) in
         (walk-from ys e, walk-marked ys t′ ∙ before xs ys l e s (length xs) 0 (ap (end-of 0) (sym w) ∙ n) ∙ ap (λ i. i ++ walk-from ys e) (sym w))
 
@@ -154,17 +164,6 @@ program-loss m n b e its s r f h ends w =
       λ q. kept-of (meant m b e (run its)) (f .left) (batch-end m e) (walk (m .shown b) ++ placed e its) long walked (torn-kept m s b e (run its) ok (f .left) (f .torn) q),
     )
 
-pub synced-kept : Synced-kept
-synced-kept m n b e bs s r f h ends q z =
-    let ok = accepted m b e (length bs) r in
-    let here = broken-here m n b (f .left) (f .marks) (f .is) in
-    let front : take e (m .shown b) ≡ take e (meant m b e bs) = sym (over-front (m .shown b) e (cells bs) (meant-fits m s b e bs ok) e (omega arith)) in
-    let kept : take e (meant m b e bs) ≡ take e (f .left) = subst (λ (k : ℕ). take k (meant m b e bs) ≡ take k (f .left)) z (torn-kept m s b e bs ok (f .left) (f .torn) q) in
-    let long : length (m .shown b) ≡ length (f .left) = s .shown-length b (ok .there) ∙ sym (meant-length m s b e bs ok) ∙ torn-length m s b e bs ok (f .left) (f .torn) in
-    let p = same-start (m .shown b) (f .left) e long h (ends .at) (front ∙ kept) in
-    subst (λ (got : List Cell). First-part (walk (m .shown b)) (walk got) × First-part (nodes-of (walk (m .shown b))) (nodes-of (walk got))) (sym here)
-    (p, first-nodes (walk (m .shown b)) (walk (f .left)) p)
-
 pub opening-loss : Opening-loss
 opening-loss m n b its s r f bare w =
     let ok = accepted m b 0 (length (run (marker ∷ its))) r in
@@ -263,9 +262,43 @@ erase-loss m n b r s d i l = (
     long : i ≡ b → length (n .settled i) ≡ m .size
     long e = ap (λ j. length (n .settled j)) e ∙ after-length m n b r s (subst (λ j. j < m .blocks) e l) d
 
-pub restart-loss : Restart-loss
+pub restart-shows : Restart-shows
 unfolding restarted
-restart-loss m n s r b l = settled-lost m s b l (n .settled b) (ap (λ (x : Meaning). x .settled b) (r .is))
+restart-shows m n r b = ap (λ (x : Meaning). x .shown b) (r .is)
+
+restart-settles : (m n : Meaning) → Restarted m n → (b : ℕ) → n .settled b ≡ m .settled b
+unfolding restarted
+restart-settles m n r b = ap (λ (x : Meaning). x .settled b) (r .is)
+
+pub restart-loss : Restart-loss
+restart-loss m n s r b l = settled-lost m s b l (n .shown b) (restart-shows m n r b)
+
+-- ─── synced blocks ───
+
+-- a block of which nothing but held bytes is lost
+settled-synced : (m : Meaning) → Sane m → (b e : ℕ) → b < m .blocks → Synced m b e → (got : List Cell) → got ≡ m .settled b → Leading (walk (m .shown b)) (walk got)
+settled-synced m s b e l y got is =
+    subst (λ (g : List Cell). Leading (walk (m .shown b)) (walk g)) (sym is)
+    (same-start (m .shown b) (m .settled b) e (s .shown-length b l ∙ sym (s .settled-length b l)) (y .ends)
+    (subst (λ (k : ℕ). take k (m .shown b) ≡ take k (m .settled b)) (y .at-batch) (y .settled)))
+
+program-synced : (m n : Meaning) → Sane m → (b e : ℕ) (bs : List ℕ) → Accepted m b e (length bs) → Failed m b e bs n → Synced m b e → Leading (walk (m .shown b)) (walk (n .settled b))
+program-synced m n s b e bs ok f y =
+    let front : take e (m .shown b) ≡ take e (meant m b e bs) = sym (over-front (m .shown b) e (cells bs) (meant-fits m s b e bs ok) e (omega arith)) in
+    let kept : take e (meant m b e bs) ≡ take e (f .left) =
+    subst (λ (k : ℕ). take k (meant m b e bs) ≡ take k (f .left)) (y .at-batch) (torn-kept m s b e bs ok (f .left) (f .torn) (y .settled)) in
+    let long : length (m .shown b) ≡ length (f .left) = s .shown-length b (ok .there) ∙ sym (meant-length m s b e bs ok) ∙ torn-length m s b e bs ok (f .left) (f .torn) in
+    subst (λ (g : List Cell). Leading (walk (m .shown b)) (walk g)) (sym (broken-here m n b (f .left) (f .marks) (f .is)))
+    (same-start (m .shown b) (f .left) e long (y .ends) (front ∙ kept))
+
+spared-synced : (m n : Meaning) (b : ℕ) → n .settled b ≡ m .shown b → Leading (walk (m .shown b)) (walk (n .settled b))
+spared-synced m n b e = leading (walk (m .shown b)) (walk (n .settled b)) ([], ap walk e ∙ sym (append-nil (walk (m .shown b))))
+
+pub synced-kept : Synced-kept
+synced-kept m n b e s l y (cut.here bs r f) = program-synced m n s b e bs (accepted m b e (length bs) r) f y
+synced-kept m n b e s l y (cut.elsewhere c o bs ne r f) = spared-synced m n b (program-spares m n c o bs r f b l ne)
+synced-kept m n b e s l y (cut.erase c r ne d) = settled-synced m s b e l y (n .settled b) (after-elsewhere m n c r d b ne)
+synced-kept m n b e s l y (cut.restart r) = settled-synced m s b e l y (n .settled b) (restart-settles m n r b)
 
 -- ─── finished batches ───
 

@@ -18,7 +18,7 @@ use Rattle.nodes.proofs.Walks.{fuel, item-at}
 use Rattle.nodes.proofs.Marks.{marked-cells, cells-marked, marker-stands, marker-size, walk-marked, walk-bare}
 use Rattle.encode.proofs.Laying.{same-part}
 use Rattle.losses.specs.Left.{First-part, finished, Kept}
-use Rattle.losses.proofs.Leaving.{again, first-nodes}
+use Rattle.losses.proofs.Leaving.{again, leading}
 
 -- the places of a walk do not lie before its start
 places : (f : ℕ) (xs : List Cell) (p : ℕ) (x : ℕ × Item) → List·Memᴰ x (walk-in f xs p) → p ≤ x .0
@@ -115,8 +115,4 @@ module _ (want got : List Cell) (long : length want ≡ length got) (k : ℕ) (s
           (cases-lt k 12)
 
   pub keeps : Kept k (walk want) (walk got)
-  keeps = record {
-    each = λ x m l. keeps-each x l m;
-    items = keeps-first;
-    nodes = first-nodes (finished k (walk want)) (walk got) keeps-first;
-  }
+  keeps = record { each = λ x m l. keeps-each x l m; leading = leading (finished k (walk want)) (walk got) keeps-first }

@@ -17,7 +17,7 @@ use Rattle.nodes.proofs.Standing.{Reads, stands-reads, reads-stands, moved, at-
 use Rattle.nodes.proofs.Walks.{item-at, none-at}
 use Rattle.nodes.proofs.Marks.{alike-take, marker-stands, marker-size, walk-marked, walk-bare}
 use Rattle.losses.specs.Fair.{counted, parting, absent, nothing-at, fair, Fair}
-use Rattle.losses.specs.Left.{First-part, is-node, nodes-of, Left}
+use Rattle.losses.specs.Left.{First-part, is-node, nodes-of, Leading}
 
 pub counted-word : (it : Item) → is-word it ≡ true → counted it ≡ 4
 unfolding counted
@@ -60,8 +60,8 @@ nodes-append (x ∷ a) b = ap (λ l. cond (is-node (x .1)) (x .1 ∷ l) l) (node
     out false it m n = refl
 
 -- first items have first nodes
-pub first-nodes : (xs ys : List (ℕ × Item)) → First-part xs ys → First-part (nodes-of xs) (nodes-of ys)
-first-nodes xs ys f = (nodes-of (f .0), ap nodes-of (f .1) ∙ nodes-append xs (f .0))
+pub leading : (xs ys : List (ℕ × Item)) → First-part xs ys → Leading xs ys
+leading xs ys f = record { items = f; nodes = (nodes-of (f .0), ap nodes-of (f .1) ∙ nodes-append xs (f .0)) }
 
 module _ (want got : List Cell) where
   -- the places where rows part do not lie before the start of the items
@@ -141,5 +141,5 @@ module _ (want got : List Cell) (long : length want ≡ length got) where
           let m = more 0 marker (walk-from want (0 + size marker)) (marker-stands got u) b in
           (m .0, w ∙ m .1 ∙ ap (λ l. l ++ m .0) (sym (walk-marked got u)))
 
-  pub left : Fair want (walk want) got → Left (walk want) (walk got)
-  left f = record { items = leaves f; nodes = first-nodes (walk got) (walk want) (leaves f) }
+  pub left : Fair want (walk want) got → Leading (walk got) (walk want)
+  left f = leading (walk got) (walk want) (leaves f)

@@ -24,7 +24,7 @@ use Rattle.nodes.proofs.Marks.{alike-take, marked-cells, cells-marked, marker-s
 use Rattle.nodes.proofs.Cuts.{length-seen}
 use Rattle.losses.specs.Compared.{view-counted}
 use Rattle.losses.specs.Fair.{counted, parting, absent, nothing-at, fair, loss-fair}
-use Rattle.losses.specs.Left.{Left}
+use Rattle.losses.specs.Left.{Leading}
 use Rattle.losses.proofs.Leaving.{left, elsewhere-nothing, start-nothing, parting-grows, kept}
 use Rattle.losses.proofs.Fairness.{counted-fits}
 
@@ -245,10 +245,10 @@ module _ (fs gs : List Bool) (bs cs : List ℕ) where
   lengths-same b l e = e ∙ sym (cond-true _ _ _ (eq-eqb _ _ (length-seen fs 0 bs ∙ l ∙ sym (length-seen gs 0 cs))))
 
 -- what a fair loss of a block leaves
-pub fair-left : (want got : List Cell) → loss-fair want got ≡ true → Left (walk want) (walk got)
+pub fair-left : (want got : List Cell) → loss-fair want got ≡ true → Leading (walk got) (walk want)
 unfolding loss-fair
 fair-left want got e = go (eqb (length want) (length got)) refl e
   where
-    go : (b : Bool) → eqb (length want) (length got) ≡ b → cond b (fair want (walk want) got) false ≡ true → Left (walk want) (walk got)
+    go : (b : Bool) → eqb (length want) (length got) ≡ b → cond b (fair want (walk want) got) false ≡ true → Leading (walk got) (walk want)
     go true l f = left want got (eqb-true _ _ l) f
     go false l f = absurd (false≢true f)

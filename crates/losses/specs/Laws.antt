@@ -1,19 +1,22 @@
 -- What holds of losses: of rows of cells, and of a flash m that is n after the loss. Assumes nothing.
 --
--- Rows-left         a fair loss leaves the first items that were to stand
--- Rows-kept         and whatever was lost, those in a first part of the cells that is as it was to be are kept
+-- Rows-left         the items met after a fair loss are the first of those that were to stand
+-- Rows-kept         whatever was lost, the items in a first part of the cells that is as it was to be are kept
 -- Nothing-lost      where all can be read and nothing is lost, the loss is fair
--- Lost              the items of the list are those of the walk of what was to stand, and a fair loss leaves the first of them
--- Program-loss      a program of items fails that were to follow those of the block: a fair loss leaves the first of all these;
---                   if the batches that end where the program begins, or before, were settled, the items in them are kept
--- Synced-kept       if such a batch ends just there, all items that stood before the program are kept
--- Opening-loss      a blank block on which the marker and items were to be laid
+-- Lost              the items of the list are those of the walk of what was to stand, and after a fair loss the first of them are met
+-- Program-loss      a program of items fails that were to follow those of the block: after a fair loss the first of all these are
+--                   met; if the batches that end where the program begins, or before, were settled, the items in them are kept
+-- Opening-loss      a program of the marker and items fails on a blank block: after a fair loss the first of these are met
 -- Program-spares    a program that fails loses nothing in other blocks
--- Erase-loss        an erase fails: a fair loss leaves the first items of each block; where the block is not the one erased,
---                   the items in batches that were settled are kept
--- Restart-loss      held bytes are lost in a restart: a fair loss leaves the first items, and those in settled batches are kept
+-- Erase-loss        an erase fails: after a fair loss the first items of each block are met; of a block that is not the one
+--                   erased, the items in settled batches are kept
+-- Restart-loss      a restart loses what was held: after a fair loss the first items of each block are met, and those in settled
+--                   batches are kept
+-- Cut               the power was cut, and not in an erase of the block i
+-- Synced-kept       then no item of the block is lost if it was synced, be the loss fair or not
 -- Program-finishes  a program that is done settles the batches that end where it ends, or before
 -- Held-finished     on every flash all batches before the one with the held bytes are settled
+-- Restart-shows     after a restart a block shows what was settled
 use mathlib.Core.Path.{_≡_}
 use mathlib.Core.List.{List, [], _∷_, _++_}
 use Prim.Native.Nat.{ℕ, _+_, _≤_, _<_}
@@ -27,12 +30,12 @@ use Rattle.nodes.specs.Items.{Item}
 use Rattle.nodes.specs.Walk.{walk, marker}
 use Rattle.encode.specs.Laid.{All-well-formed, run, placed, Ends}
 use Rattle.losses.specs.Fair.{Fair}
-use Rattle.losses.specs.Left.{First-part, nodes-of, Left, Kept, Finished}
+use Rattle.losses.specs.Left.{Leading, Kept, Finished, Synced}
 
 -- ─── rows of cells ───
 
 abbrev pub Rows-left : Type 0
-Rows-left = (want got : List Cell) → length want ≡ length got → Fair want (walk want) got → Left (walk want) (walk got)
+Rows-left = (want got : List Cell) → length want ≡ length got → Fair want (walk want) got → Leading (walk got) (walk want)
 
 abbrev pub Rows-kept : Type 0
 Rows-kept = (want got : List Cell) (k : ℕ) → length want ≡ length got → take k want ≡ take k got → Kept k (walk want) (walk got)
@@ -43,7 +46,7 @@ Nothing-lost = (bs : List ℕ) → Fair (cells bs) (walk (cells bs)) (cells bs)
 -- ─── flash ───
 
 abbrev pub Lost : List Cell → List (ℕ × Item) → List Cell → Type 0
-Lost want list got = (walk want ≡ list) × (Fair want list got → Left list (walk got))
+Lost want list got = (walk want ≡ list) × (Fair want list got → Leading (walk got) list)
 
 abbrev pub Program-loss : Type 0
 Program-loss =
@@ -51,12 +54,6 @@ Program-loss =
     → 12 ≤ e → Ends (m .shown b) e → All-well-formed its
     → Lost (meant m b e (run its)) (walk (m .shown b) ++ placed e its) (n .settled b)
     × (Finished m b e → Kept (batch-end m e) (walk (m .shown b) ++ placed e its) (walk (n .settled b)))
-
-abbrev pub Synced-kept : Type 0
-Synced-kept =
-    (m n : Meaning) (b e : ℕ) (bs : List ℕ) → Sane m → program-refusal m b e (length bs) ≡ None → Failed m b e bs n
-    → 12 ≤ e → Ends (m .shown b) e → Finished m b e → batch-end m e ≡ e
-    → First-part (walk (m .shown b)) (walk (n .settled b)) × First-part (nodes-of (walk (m .shown b))) (nodes-of (walk (n .settled b)))
 
 abbrev pub Opening-loss : Type 0
 Opening-loss =
@@ -78,8 +75,19 @@ Erase-loss =
 abbrev pub Restart-loss : Type 0
 Restart-loss =
     (m n : Meaning) → Sane m → Restarted m n → (b : ℕ) → b < m .blocks
-    → Lost (m .shown b) (walk (m .shown b)) (n .settled b)
-    × ((e : ℕ) → Finished m b e → Kept (batch-end m e) (walk (m .shown b)) (walk (n .settled b)))
+    → Lost (m .shown b) (walk (m .shown b)) (n .shown b)
+    × ((e : ℕ) → Finished m b e → Kept (batch-end m e) (walk (m .shown b)) (walk (n .shown b)))
+
+-- m became n by a failed program of the block i at e or of another block, by an erase of another block, or by a restart
+pub data Cut (m n : Meaning) (i e : ℕ) : Type 0 where
+  here : (bs : List ℕ) → program-refusal m i e (length bs) ≡ None → Failed m i e bs n → Cut m n i e
+  elsewhere : (b o : ℕ) (bs : List ℕ) → (i ≡ b → ⊥) → program-refusal m b o (length bs) ≡ None → Failed m b o bs n → Cut m n i e
+  erase : (b : ℕ) (r : Answer) → (i ≡ b → ⊥) → Erased m b r n → Cut m n i e
+  restart : Restarted m n → Cut m n i e
+
+abbrev pub Synced-kept : Type 0
+Synced-kept =
+    (m n : Meaning) (b e : ℕ) → Sane m → b < m .blocks → Synced m b e → Cut m n b e → Leading (walk (m .shown b)) (walk (n .settled b))
 
 abbrev pub Program-finishes : Type 0
 Program-finishes =
@@ -87,3 +95,6 @@ Program-finishes =
 
 abbrev pub Held-finished : Type 0
 Held-finished = (m : Meaning) (s : Sane m) (b : ℕ) → b < m .blocks → Finished m b (s .held-end)
+
+abbrev pub Restart-shows : Type 0
+Restart-shows = (m n : Meaning) → Restarted m n → (b : ℕ) → n .shown b ≡ m .settled b

@@ -5,10 +5,10 @@ ghost use lib.ListN.{length};
 ghost use Rattle.nodes.specs.Seen.{seen};
 ghost use Rattle.nodes.specs.Walk.{walk};
 ghost use Rattle.losses.specs.Fair.{fair, loss-fair};
-ghost use Rattle.losses.specs.Left.{Left};
+ghost use Rattle.losses.specs.Left.{Leading};
 ghost use Rattle.losses.specs.Laws.{Nothing-lost, Rows-kept, Rows-left};
-ghost use Rattle.losses.specs.Laws.{Opening-loss, Program-finishes, Program-loss, Program-spares, Synced-kept};
-ghost use Rattle.losses.specs.Laws.{Erase-loss, Held-finished, Restart-loss};
+ghost use Rattle.losses.specs.Laws.{Opening-loss, Program-loss, Program-spares, Erase-loss, Restart-loss, Synced-kept};
+ghost use Rattle.losses.specs.Laws.{Held-finished, Program-finishes, Restart-shows};
 ghost use Rattle.losses.specs.Examples.{Examples};
 use crate::compare::are_same;
 use crate::compare::counted_of;
@@ -58,18 +58,19 @@ pub fn is_fair<'a>(
     got_flags: &'a [bool],
 ) -> bool
     ensures answer { λ r. ⌜ r ≡ loss-fair (seen (now («want_flags» .entry)) (now (want .entry))) (seen (now («got_flags» .entry)) (now (got .entry))) ⌝ }
-    ensures left { λ r. ⌜ (r ≡ true → Left (walk (seen (now («want_flags» .entry)) (now (want .entry)))) (walk (seen (now («got_flags» .entry)) (now (got .entry))))) ⌝ }
+    ensures left { λ r. ⌜ (r ≡ true → Leading (walk (seen (now («got_flags» .entry)) (now (got .entry)))) (walk (seen (now («want_flags» .entry)) (now (want .entry))))) ⌝ }
     ensures rows { λ _. ⌜ Rows-left ⌝ }
     ensures kept { λ _. ⌜ Rows-kept ⌝ }
     ensures nothing { λ _. ⌜ Nothing-lost ⌝ }
     ensures program { λ _. ⌜ Program-loss ⌝ }
-    ensures synced { λ _. ⌜ Synced-kept ⌝ }
     ensures opening { λ _. ⌜ Opening-loss ⌝ }
     ensures spares { λ _. ⌜ Program-spares ⌝ }
     ensures erase { λ _. ⌜ Erase-loss ⌝ }
     ensures restart { λ _. ⌜ Restart-loss ⌝ }
+    ensures synced { λ _. ⌜ Synced-kept ⌝ }
     ensures finishes { λ _. ⌜ Program-finishes ⌝ }
     ensures held { λ _. ⌜ Held-finished ⌝ }
+    ensures shows { λ _. ⌜ Restart-shows ⌝ }
     ensures examples { λ _. ⌜ Examples ⌝ }
 {
     decide(want, want_flags, got, got_flags)

@@ -23,5 +23,6 @@ returns c = record {
   restart = failures.restart-loss;
   finishes = failures.program-finishes;
   held = failures.held-finished;
+  shows = failures.restart-shows;
   examples = computed;
 }

@@ -36,7 +36,8 @@ loop-met-again c =
     turn-of (seen (c .args .want-flags .now) (c .args .want .now)) (seen (c .args .got-flags .now) (c .args .got .now)) (length (c .args .want .now)) _ _ (rest (c .loop-met .before))
     (rest (c .loop-met .after)) _ _ (c .in-Some-next .meant .place) (item-shown (c .in-Some-next .meant .item)) (c .counted-of-n .result) (c .loop-met .inv) (c .in-Some .ensures tt .first)
     (c .in-Some-next .ensures tt .first) (c .counted-of-n .ensures) in
-    next-turn (seen (c .args .want-flags .now) (c .args .want .now)) (seen (c .args .got-flags .now) (c .args .got .now)) (length (c .args .want .now)) 0 0 _ _ _ _ _ _ _ t
+    next-turn (seen (c .args .want-flags .now) (c .args .want .now)) (seen (c .args .got-flags .now) (c .args .got .now)) (length (c .args .want .now)) 0 0 (rest (c .loop-met .before))
+    (rest (c .loop-met .after)) (rest (c .next-in-Some .last .self)) (rest (c .next .last .self)) (c .in-Some-next .meant .place .offset) (c .counted-of-n .result) _ t
     (c .in-Some-next .ensures tt .others) (c .in-Some .ensures tt .others) (c .if-not-are-same .ensures tt)
 
 pub returns : need.returns
