@@ -1,32 +1,32 @@
 -- What failures of a flash leave, by the laws of rows.
 use mathlib.Core.Path.{_≡_, refl, sym, ap, subst, _∙_}
-use mathlib.Core.Bool.{Bool, true, false, cond, not}
+use mathlib.Core.Bool.{Bool, true, false, cond}
 use mathlib.Core.Logic.{⊎-elim}
-use mathlib.Core.List.{List, [], _∷_, _++_, append-nil}
-use Prim.Native.Nat.{ℕ, zero, suc, _+_, _-_, _*_, _/_, _%_, _≤_, _<_}
+use mathlib.Core.List.{List, [], _∷_, _++_, append-nil, append-assoc}
+use Prim.Native.Nat.{ℕ, zero, suc, _+_, _*_, _/_, _%_, _≤_, _<_}
 use native.Mathlib.Nat.{div-add-mod', div-mul-le-self, lt-of-mul-lt-mul-right, mul-le-mul-right}
 use native.Mathlib.Omega.{arith}
 use lib.Dec.{eqb}
 use lib.ListN.{length, take, drop, getD, length-take, length-drop, length-replicate}
-use Rattle.std.proofs.shelf.Lists.{ext-getD, getD-take, getD-past, length-append, length-map, length-take-le, take-append-le, take-at, take-take}
-use Rattle.std.proofs.shelf.Tests.{eqb-true, cases-lt, cases-eq, eq-eqb, ne-eqb, not-false, true≢false, false≢true}
-use Rattle.std.specs.declared.option.Option.the-variants.{None}
-use Rattle.flash.specs.Cells.{Cell, byte, lost, cells, blank, over}
-use Rattle.flash.specs.Meaning.{Meaning, Sane, with-at, mixed, batch-end, shown-at, settled-at}
-use Rattle.flash.specs.Refused.{program-refusal, same-cell, same-cells, holds, of-another, other-held}
-use Rattle.flash.specs.Rules.{Answer, Spoilt, bytes, unreadable, Concerned, had, takes, Torn, Passed, Failed, Erased, refused, done, failed, Restarted, meant, programmed, broken, erased, restarted}
+use Rattle.std.proofs.shelf.Lists.{append-cancel-left, ext-getD, getD-take, getD-past, length-append, length-map, length-take-le, take-append-le, take-at, take-take}
+use Rattle.std.proofs.shelf.Tests.{eqb-true, cases-lt, cases-eq, ne-eqb, not-false, true≢false, false≢true}
+use Rattle.flash.specs.Cells.{Cell, byte, lost, cells, blank}
+use Rattle.flash.specs.Meaning.{Meaning, Sane, mixed, batch-end, shown-at, settled-at}
+use Rattle.flash.specs.Refused.{same-cell, same-cells, holds, of-another, other-held}
+use Rattle.flash.specs.Rules.{Answer, Spoilt, bytes, unreadable, Concerned, had, takes, Torn, Failed, Erased, refused, done, failed, Restarted, meant, programmed, broken, erased, restarted}
 use Rattle.flash.proofs.Over.{here, elsewhere, over-length, over-front}
+use Rattle.flash.proofs.Settled.{nothing-held}
 use Rattle.flash.proofs.Refusals.{Accepted, accepted}
 use Rattle.nodes.specs.Items.{Item, size}
-use Rattle.nodes.specs.Walk.{walk-in, walk-from, walk, marked, marker, end-of}
+use Rattle.nodes.specs.Walk.{walk-from, walk, marked, marker, end-of}
 use Rattle.nodes.proofs.Walks.{item-at, none-at}
 use Rattle.nodes.proofs.Marks.{marked-cells, cells-marked, marker-stands, marker-size, walk-marked, walk-bare}
-use Rattle.encode.specs.Laid.{All-well-formed, run, placed, Ends}
+use Rattle.encode.specs.Laid.{run, placed}
 use Rattle.encode.proofs.Laying.{appends, opens, before, blank-none, end-grows, same-part}
 use Rattle.losses.specs.Fair.{Fair}
 use Rattle.losses.specs.Laws as cut
 use Rattle.losses.specs.Left.{First-part, Leading, Kept, Finished, Synced}
-use Rattle.losses.specs.Laws.{Lost, Program-loss, Opening-loss, Program-spares, Erase-loss, Restart-loss, Synced-kept, Program-finishes, Held-finished, Restart-shows}
+use Rattle.losses.specs.Laws.{Lost, Program-loss, Opening-loss, Program-spares, Erase-loss, Restart-loss, Synced-kept, Synced-program, Program-finishes, Held-finished, Unheld-finished, Restart-shows}
 use Rattle.losses.proofs.Leaving.{left, leading}
 use Rattle.losses.proofs.Keeping.{keeps}
 
@@ -300,6 +300,18 @@ synced-kept m n b e s l y (cut.elsewhere c o bs ne r f) = spared-synced m n b (p
 synced-kept m n b e s l y (cut.erase c r ne d) = settled-synced m s b e l y (n .settled b) (after-elsewhere m n c r d b ne)
 synced-kept m n b e s l y (cut.restart r) = settled-synced m s b e l y (n .settled b) (restart-settles m n r b)
 
+-- what leads a list and begins with its first part has a first part of the rest behind it
+between : (xs ys zs : List (ℕ × Item)) → First-part xs ys → First-part ys (xs ++ zs) → (some : List (ℕ × Item)) × (ys ≡ xs ++ some) × Leading some zs
+between xs ys zs f g =
+    let e : xs ++ zs ≡ xs ++ (f .0 ++ g .0) = g .1 ∙ ap (λ l. l ++ g .0) (f .1) ∙ append-assoc xs (f .0) (g .0) in
+    (f .0, f .1, leading (f .0) zs (g .0, append-cancel-left xs zs (f .0 ++ g .0) e))
+
+pub synced-program : Synced-program
+synced-program m n b e its s r f h ends y w fair =
+    between (walk (m .shown b)) (walk (n .settled b)) (placed e its)
+    (program-synced m n s b e (run its) (accepted m b e (length (run its)) r) f y .items)
+    (program-loss m n b e its s r f h ends w .0 .1 fair .items)
+
 -- ─── finished batches ───
 
 programmed-batch : (m n : Meaning) (b o : ℕ) (bs : List ℕ) (k : ℕ) → n ≡ programmed m b o bs k → n .batch ≡ m .batch
@@ -339,3 +351,8 @@ held-finished m s b l =
   where
     k : ℕ
     k = batch-end m (s .held-end)
+
+pub unheld-finished : Unheld-finished
+unheld-finished m s p b e l z =
+    let q : e % m .batch ≡ 0 = subst (λ g. e % g ≡ 0) p z in
+    (omega (arith, div-add-mod' e (m .batch), q), ap (take (batch-end m e)) (nothing-held m s p b l))

@@ -4,7 +4,6 @@ use mathlib.Core.Bool.{Bool, true, false, cond, not}
 use mathlib.Core.List.{List, [], _∷_, _++_}
 use Prim.Native.Nat.{ℕ, zero, suc, _+_, _≤_, _<_}
 use native.Mathlib.Omega.{arith}
-use lib.Dec.{eqb}
 use lib.ListN.{length, take, drop, length-drop}
 use Rattle.std.proofs.shelf.Tests.{leb-true, cond-true, cond-false, ne-eqb, not-true, both-ways, false≢true}
 use Rattle.std.proofs.shelf.Ways.{tells}

@@ -2,7 +2,7 @@
 use mathlib.Core.Path.{_≡_, refl, sym, ap, subst, _∙_}
 use mathlib.Core.Bool.{Bool, true, false, cond, not}
 use mathlib.Core.List.{List, [], _∷_}
-use Prim.Native.Nat.{ℕ, zero, suc, _+_, _-_, _≤_, _<_, max}
+use Prim.Native.Nat.{ℕ, zero, suc, _+_, _≤_, max}
 use native.Mathlib.Omega.{arith}
 use lib.Dec.{eqb}
 use lib.ListN.{length, take, drop, length-drop}
@@ -252,3 +252,8 @@ fair-left want got e = go (eqb (length want) (length got)) refl e
     go : (b : Bool) → eqb (length want) (length got) ≡ b → cond b (fair want (walk want) got) false ≡ true → Leading (walk got) (walk want)
     go true l f = left want got (eqb-true _ _ l) f
     go false l f = absurd (false≢true f)
+
+-- the same fairness, of a list that is known to be that of the walk
+pub fair-decided : (want got : List Cell) (list : List (ℕ × Item)) → length want ≡ length got → walk want ≡ list → fair want list got ≡ loss-fair want got
+unfolding loss-fair
+fair-decided want got list l e = ap (λ i. fair want i got) (sym e) ∙ sym (cond-true _ _ _ (eq-eqb _ _ l))

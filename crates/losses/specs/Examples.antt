@@ -1,13 +1,14 @@
 -- Small blocks and what losses leave of them, computed. Assumes nothing.
 --
--- filled     the marker, a zero word, padding of 16 bytes, and blank cells
--- spoilt     the same, with the zeros of the padding unreadable
--- torn       the same, with the header of the padding torn
--- foreign    after the marker an item of a kind that is passed over, with a body that cannot be read
--- named      after the marker an entry of one name; its fields are of the worked values of the format
--- renamed    the same, with the last byte of the name another
--- other      the same, with an entry that was not laid in its place: its sums are right
--- Examples   which of these losses are fair, and what is met after them
+-- filled        the marker, a zero word, padding of 16 bytes, and blank cells
+-- spoilt        the same, with the zeros of the padding unreadable
+-- torn          the same, with the header of the padding torn
+-- foreign       after the marker an item of a kind that is passed over, with a body that cannot be read
+-- entry-named   the fields of an entry with a name of one byte
+-- named         after the marker an entry with the name a
+-- renamed       the same, where a byte differs: the name is b, and the sums are those of a
+-- other         the same, where the name is b and the sums are right
+-- Examples      which of these losses are fair, and what is met after them
 use mathlib.Core.Path.{_≡_}
 use mathlib.Core.Bool.{true, false}
 use mathlib.Core.List.{List, [], _∷_, _++_}

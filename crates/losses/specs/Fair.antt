@@ -4,6 +4,7 @@
 -- parting      the place where cells as settled part from a list of items that were to stand on the cells want: that of the
 --              first item of which a counted byte differs or cannot be read; if there is none, the end of the list, which
 --              is where its last item ends, or p for an empty list
+-- absent       whether nothing stands, of what may stand at a place
 -- nothing-at   whether nothing passes at a place: at 0 only the marker would; elsewhere any item that passes, or a zero word
 -- fair         whether a loss is fair that left the cells got, where the items of the list were to stand on the cells want
 -- Fair         that it is

@@ -3,6 +3,7 @@
 -- Rows-left         the items met after a fair loss are the first of those that were to stand
 -- Rows-kept         whatever was lost, the items in a first part of the cells that is as it was to be are kept
 -- Nothing-lost      where all can be read and nothing is lost, the loss is fair
+-- Fair-decided      where the items of a list are those of the walk of what was to stand, fairness is what the code decides
 -- Lost              the items of the list are those of the walk of what was to stand, and after a fair loss the first of them are met
 -- Program-loss      a program of items fails that were to follow those of the block: after a fair loss the first of all these are
 --                   met; if the batches that end where the program begins, or before, were settled, the items in them are kept
@@ -14,12 +15,15 @@
 --                   batches are kept
 -- Cut               the power was cut, and not in an erase of the block i
 -- Synced-kept       then no item of the block is lost if it was synced, be the loss fair or not
+-- Synced-program    after a fair loss in a program of items that were to follow those of a synced block, all that stood are met, then
+--                   the first of those being laid, and nothing else
 -- Program-finishes  a program that is done settles the batches that end where it ends, or before
 -- Held-finished     on every flash all batches before the one with the held bytes are settled
+-- Unheld-finished   where a page is a batch, all is settled, and every place where a program can begin is the end of a batch
 -- Restart-shows     after a restart a block shows what was settled
 use mathlib.Core.Path.{_≡_}
-use mathlib.Core.List.{List, [], _∷_, _++_}
-use Prim.Native.Nat.{ℕ, _+_, _≤_, _<_}
+use mathlib.Core.List.{List, _∷_, _++_}
+use Prim.Native.Nat.{ℕ, _+_, _%_, _≤_, _<_}
 use lib.ListN.{length, take}
 use Rattle.std.specs.declared.option.Option.the-variants.{None}
 use Rattle.flash.specs.Cells.{Cell, cells, blank}
@@ -29,7 +33,7 @@ use Rattle.flash.specs.Rules.{Answer, meant, Passed, Failed, Erased, Restarted}
 use Rattle.nodes.specs.Items.{Item}
 use Rattle.nodes.specs.Walk.{walk, marker}
 use Rattle.encode.specs.Laid.{All-well-formed, run, placed, Ends}
-use Rattle.losses.specs.Fair.{Fair}
+use Rattle.losses.specs.Fair.{Fair, fair, loss-fair}
 use Rattle.losses.specs.Left.{Leading, Kept, Finished, Synced}
 
 -- ─── rows of cells ───
@@ -42,6 +46,9 @@ Rows-kept = (want got : List Cell) (k : ℕ) → length want ≡ length got → 
 
 abbrev pub Nothing-lost : Type 0
 Nothing-lost = (bs : List ℕ) → Fair (cells bs) (walk (cells bs)) (cells bs)
+
+abbrev pub Fair-decided : Type 0
+Fair-decided = (want got : List Cell) (list : List (ℕ × Item)) → length want ≡ length got → walk want ≡ list → fair want list got ≡ loss-fair want got
 
 -- ─── flash ───
 
@@ -89,12 +96,23 @@ abbrev pub Synced-kept : Type 0
 Synced-kept =
     (m n : Meaning) (b e : ℕ) → Sane m → b < m .blocks → Synced m b e → Cut m n b e → Leading (walk (m .shown b)) (walk (n .settled b))
 
+abbrev pub Synced-program : Type 0
+Synced-program =
+    (m n : Meaning) (b e : ℕ) (its : List Item) → Sane m → program-refusal m b e (length (run its)) ≡ None → Failed m b e (run its) n
+    → 12 ≤ e → Ends (m .shown b) e → Synced m b e → All-well-formed its
+    → Fair (meant m b e (run its)) (walk (m .shown b) ++ placed e its) (n .settled b)
+    → (some : List (ℕ × Item)) × (walk (n .settled b) ≡ walk (m .shown b) ++ some) × Leading some (placed e its)
+
 abbrev pub Program-finishes : Type 0
 Program-finishes =
     (m n : Meaning) (b o : ℕ) (bs : List ℕ) → Sane m → program-refusal m b o (length bs) ≡ None → Passed m b o bs n → Finished n b (o + length bs)
 
 abbrev pub Held-finished : Type 0
 Held-finished = (m : Meaning) (s : Sane m) (b : ℕ) → b < m .blocks → Finished m b (s .held-end)
+
+abbrev pub Unheld-finished : Type 0
+Unheld-finished =
+    (m : Meaning) → Sane m → m .page ≡ m .batch → (b e : ℕ) → b < m .blocks → e % m .page ≡ 0 → (batch-end m e ≡ e) × Finished m b e
 
 abbrev pub Restart-shows : Type 0
 Restart-shows = (m n : Meaning) → Restarted m n → (b : ℕ) → n .shown b ≡ m .settled b

@@ -1,14 +1,15 @@
 -- What a loss leaves of the items that were to stand. Assumes nothing.
 --
 -- First-part   xs are the first of ys, in their order
--- nodes-of     the entries and contents among items, without their places
+-- is-node      whether an item is an entry or a content
+-- nodes-of     the nodes among items, without their places
 -- Leading      items are the first of others, and so are their nodes
 -- finished     the first items of a list, up to the first of which a byte that decides it lies at k or behind
 -- Kept         each item of the list is met of which all bytes that decide it lie before k; these items lead those met
 -- Finished     the batches of a block that end at e or before are settled: nothing is held in them
 -- Synced       the items that the block shows end at e, where a batch ends, and the batches up to there are settled
 use mathlib.Core.Path.{_≡_}
-use mathlib.Core.Bool.{Bool, true, false, cond}
+use mathlib.Core.Bool.{Bool, true, cond}
 use mathlib.Core.List.{List, [], _∷_, _++_, List·Memᴰ}
 use Prim.Native.Nat.{ℕ, _+_, _≤_}
 use lib.Dec.{eqb, leb}

@@ -6,9 +6,10 @@ ghost use Rattle.nodes.specs.Seen.{seen};
 ghost use Rattle.nodes.specs.Walk.{walk};
 ghost use Rattle.losses.specs.Fair.{fair, loss-fair};
 ghost use Rattle.losses.specs.Left.{Leading};
-ghost use Rattle.losses.specs.Laws.{Nothing-lost, Rows-kept, Rows-left};
-ghost use Rattle.losses.specs.Laws.{Opening-loss, Program-loss, Program-spares, Erase-loss, Restart-loss, Synced-kept};
-ghost use Rattle.losses.specs.Laws.{Held-finished, Program-finishes, Restart-shows};
+ghost use Rattle.losses.specs.Laws.{Fair-decided, Nothing-lost, Rows-kept, Rows-left};
+ghost use Rattle.losses.specs.Laws.{Opening-loss, Program-loss, Program-spares, Erase-loss, Restart-loss};
+ghost use Rattle.losses.specs.Laws.{Synced-kept, Synced-program};
+ghost use Rattle.losses.specs.Laws.{Held-finished, Program-finishes, Restart-shows, Unheld-finished};
 ghost use Rattle.losses.specs.Examples.{Examples};
 use crate::compare::are_same;
 use crate::compare::counted_of;
@@ -62,14 +63,17 @@ pub fn is_fair<'a>(
     ensures rows { λ _. ⌜ Rows-left ⌝ }
     ensures kept { λ _. ⌜ Rows-kept ⌝ }
     ensures nothing { λ _. ⌜ Nothing-lost ⌝ }
+    ensures decided { λ _. ⌜ Fair-decided ⌝ }
     ensures program { λ _. ⌜ Program-loss ⌝ }
     ensures opening { λ _. ⌜ Opening-loss ⌝ }
     ensures spares { λ _. ⌜ Program-spares ⌝ }
     ensures erase { λ _. ⌜ Erase-loss ⌝ }
     ensures restart { λ _. ⌜ Restart-loss ⌝ }
     ensures synced { λ _. ⌜ Synced-kept ⌝ }
+    ensures follows { λ _. ⌜ Synced-program ⌝ }
     ensures finishes { λ _. ⌜ Program-finishes ⌝ }
     ensures held { λ _. ⌜ Held-finished ⌝ }
+    ensures unheld { λ _. ⌜ Unheld-finished ⌝ }
     ensures shows { λ _. ⌜ Restart-shows ⌝ }
     ensures examples { λ _. ⌜ Examples ⌝ }
 {

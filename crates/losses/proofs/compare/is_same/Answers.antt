@@ -1,4 +1,3 @@
-use mathlib.Core.Path.{_∙_}
 use Rattle.losses.proofs.Comparing.{first-unread, second-unread, both-read}
 use Rattle.losses.proofs.compare.is_same.Needs as need
 

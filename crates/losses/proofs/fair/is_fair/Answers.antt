@@ -3,7 +3,7 @@ use Rattle.nodes.specs.Seen.{seen}
 use Rattle.losses.proofs.Leaving as leaving
 use Rattle.losses.proofs.Keeping.{keeps}
 use Rattle.losses.proofs.Fairness.{nothing-lost}
-use Rattle.losses.proofs.Lockstep.{fair-left}
+use Rattle.losses.proofs.Lockstep.{fair-decided, fair-left}
 use Rattle.losses.proofs.Computed.{computed}
 use Rattle.losses.proofs.Failures as failures
 use Rattle.losses.proofs.fair.is_fair.Needs as need
@@ -15,6 +15,7 @@ returns c = record {
   rows = leaving.left;
   kept = λ want got k l e. keeps want got l k e;
   nothing = nothing-lost;
+  decided = fair-decided;
   program = failures.program-loss;
   synced = failures.synced-kept;
   opening = failures.opening-loss;
@@ -23,6 +24,8 @@ returns c = record {
   restart = failures.restart-loss;
   finishes = failures.program-finishes;
   held = failures.held-finished;
+  follows = failures.synced-program;
+  unheld = failures.unheld-finished;
   shows = failures.restart-shows;
   examples = computed;
 }
