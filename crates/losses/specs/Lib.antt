@@ -1,0 +1,5 @@
+pub mod Fair
+pub mod Left
+pub mod Laws
+pub mod Examples
+pub mod Compared
