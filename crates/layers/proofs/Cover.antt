@@ -35,20 +35,20 @@ module _ (xs : List Cell) (o s : ℕ) (held out : List ℕ) (fits : o + length o
       let L = over xs s (cells held) in
       let fits′ : o + length out ≤ length L = rw (over-length xs s (cells held) lies′) fits in
       ext-getD lost (cells new) (part L o (length out)) (length-map new byte ∙ (long ∙ sym (part-long L o (length out) fits′)))
-        (λ i h.
-          let l : i < length out = omega (arith, h, length-map new byte, long) in
-          getD-map byte new i 0 lost (omega (arith, l, long))
-            ∙ (⊎-elim
-                (λ (k : o + i < s). ap byte (outside i l (inl k)) ∙ (out-at i l ∙ sym (over-below xs s (cells held) lies′ (o + i) lost k)))
-                (λ (k : s ≤ o + i). ⊎-elim
-                  (λ (j : o + i < s + length held).
-                    ap byte (inside i l k j)
-                      ∙ sym (over-in xs s (cells held) lies′ (o + i) lost k (rw (length-map held byte) j) ∙ getD-map byte held (o + i - s) 0 lost (omega arith)))
-                  (λ (j : s + length held ≤ o + i).
-                    ap byte (outside i l (inr j)) ∙ (out-at i l ∙ sym (over-above xs s (cells held) lies′ (o + i) lost (rw (length-map held byte) j))))
-                  (cases-lt (o + i) (s + length held)))
-                (cases-lt (o + i) s)
-              ∙ sym (part-at L o (length out) fits′ i l)))
+      (λ i h.
+      let l : i < length out = omega (arith, h, length-map new byte, long) in
+      getD-map byte new i 0 lost (omega (arith, l, long))
+      ∙ (⊎-elim
+      (λ (k : o + i < s). ap byte (outside i l (inl k)) ∙ (out-at i l ∙ sym (over-below xs s (cells held) lies′ (o + i) lost k)))
+      (λ (k : s ≤ o + i). ⊎-elim
+      (λ (j : o + i < s + length held).
+      ap byte (inside i l k j)
+      ∙ sym (over-in xs s (cells held) lies′ (o + i) lost k (rw (length-map held byte) j) ∙ getD-map byte held (o + i - s) 0 lost (omega arith)))
+      (λ (j : s + length held ≤ o + i).
+      ap byte (outside i l (inr j)) ∙ (out-at i l ∙ sym (over-above xs s (cells held) lies′ (o + i) lost (rw (length-map held byte) j))))
+      (cases-lt (o + i) (s + length held)))
+      (cases-lt (o + i) s)
+      ∙ sym (part-at L o (length out) fits′ i l)))
 
   module _ (n to from : ℕ) (to-is : to ≡ s - o) (from-is : from ≡ o - s) (n-is : n ≡ min (length out - to) (length held - from)) where
     n-out : n ≤ length out - to
@@ -79,14 +79,14 @@ module _ (xs : List Cell) (o s : ℕ) (held out : List ℕ) (fits : o + length o
         let fit : to + length mid ≤ length out = omega (arith, long, n-out, z) in
         covered new (ap length is ∙ over-length out to mid fit)
         (λ i h lo hi.
-          let in-n = reached i h lo hi in
-          let w : from + (i - to) ≡ o + i - s = omega arith in
-          ap (λ (x : List ℕ). getD x i 0) is
-            ∙ (over-in out to mid fit i 0 (omega arith) (omega (arith, long, in-n))
-              ∙ (getD-take n (drop from held) (i - to) 0 in-n ∙ (getD-drop from held (i - to) 0 ∙ ap (λ (x : ℕ). getD held x 0) w))))
+        let in-n = reached i h lo hi in
+        let w : from + (i - to) ≡ o + i - s = omega arith in
+        ap (λ (x : List ℕ). getD x i 0) is
+        ∙ (over-in out to mid fit i 0 (omega arith) (omega (arith, long, in-n))
+        ∙ (getD-take n (drop from held) (i - to) 0 in-n ∙ (getD-drop from held (i - to) 0 ∙ ap (λ (x : ℕ). getD held x 0) w))))
         (λ i h w.
-          ap (λ (x : List ℕ). getD x i 0) is
-            ∙ ⊎-elim
-              (λ (l : o + i < s). over-below out to mid fit i 0 (omega arith))
-              (λ (l : s + length held ≤ o + i). over-above out to mid fit i 0 (omega (arith, long, n-held, l)))
-              w)
+        ap (λ (x : List ℕ). getD x i 0) is
+        ∙ ⊎-elim
+        (λ (l : o + i < s). over-below out to mid fit i 0 (omega arith))
+        (λ (l : s + length held ≤ o + i). over-above out to mid fit i 0 (omega (arith, long, n-held, l)))
+        w)

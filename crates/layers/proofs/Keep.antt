@@ -60,7 +60,7 @@ module _ (m : Meaning) (bear : Bearing m) (b o : ℕ) where
     near-empty (Filling c s) f z = absurd (omega (arith, f .some))
 
     pub near-shows : (st : State) → Holding m st held → Near st (m .batch) b o → b < m .blocks → start + m .batch ≤ m .size → m .mark b ≤ start
-      → (i : ℕ) → shows m st held i ≡ with-at (m .shown) b (over (m .shown b) start (cells held)) i
+        → (i : ℕ) → shows m st held i ≡ with-at (m .shown) b (over (m .shown b) start (cells held)) i
     near-shows Empty h q there within low i =
         sym (unchanged (m .shown) b (over (m .shown b) start (cells held)) (held-none m bear b start held long there start-starts within low h) i)
     near-shows (Filling c s) f q there within low i =
@@ -68,7 +68,7 @@ module _ (m : Meaning) (bear : Bearing m) (b o : ℕ) where
 
   -- bytes over buffered the held ones
   module _ (held run : List ℕ) (long : length held ≡ m .batch) (there : b < m .blocks) (within : start + m .batch ≤ m .size) (low : m .mark b ≤ start)
-           (in-batch : o - start + length run ≤ m .batch) where
+      (in-batch : o - start + length run ≤ m .batch) where
     abbrev pub held′ : List ℕ
     held′ = over held (o - start) run
 
@@ -93,47 +93,50 @@ module _ (m : Meaning) (bear : Bearing m) (b o : ℕ) where
     pub lay-inside : over (m .shown b) start (cells held′) ≡ over L o (cells run)
     lay-inside =
         ext-getD lost (over (m .shown b) start (cells held′)) (over L o (cells run))
-          (held-long m bear b start held′ long′ there start-starts within low ∙ sym (over-length L o (cells run) fits-L ∙ L-long))
-          (λ i _.
-            let hb = held-below m bear b start held long there start-starts within low i in
-            let hi = held-in m bear b start held long there start-starts within low i in
-            let ha = held-above m bear b start held long there start-starts within low i in
-            let hb′ = held-below m bear b start held′ long′ there start-starts within low i in
-            let hi′ = held-in m bear b start held′ long′ there start-starts within low i in
-            let ha′ = held-above m bear b start held′ long′ there start-starts within low i in
-            ⊎-elim
-              (λ (k : i < start). hb′ k ∙ sym (over-below L o (cells run) fits-L i lost (omega (arith, from)) ∙ hb k))
-              (λ (k : start ≤ i). ⊎-elim
-                (λ (j : i < start + m .batch).
-                  hi′ k j ∙ ⊎-elim
-                    (λ (n : i < o).
-                      ap byte (over-below held (o - start) run fits-held (i - start) 0 (omega arith)) ∙ sym (over-below L o (cells run) fits-L i lost n ∙ hi k j))
-                    (λ (n : o ≤ i). ⊎-elim
-                      (λ (e : i < o + length run).
-                        let z : i - start - (o - start) ≡ i - o = omega (arith, from) in
-                        ap byte (over-in held (o - start) run fits-held (i - start) 0 (omega arith) (omega arith) ∙ ap (λ (x : ℕ). getD run x 0) z)
-                          ∙ sym (over-in L o (cells run) fits-L i lost n (omega (arith, length-map run byte)) ∙ getD-map byte run (i - o) 0 lost (omega arith)))
-                      (λ (e : o + length run ≤ i).
-                        ap byte (over-above held (o - start) run fits-held (i - start) 0 (omega (arith, from)))
-                          ∙ sym (over-above L o (cells run) fits-L i lost (omega (arith, length-map run byte)) ∙ hi k j))
-                      (cases-lt i (o + length run)))
-                    (cases-lt i o))
-                (λ (j : start + m .batch ≤ i). ha′ j ∙ sym (over-above L o (cells run) fits-L i lost (omega (arith, length-map run byte, from)) ∙ ha j))
-                (cases-lt i (start + m .batch)))
-              (cases-lt i start))
+        (held-long m bear b start held′ long′ there start-starts within low ∙ sym (over-length L o (cells run) fits-L ∙ L-long))
+        (λ i _.
+        let hb = held-below m bear b start held long there start-starts within low i in
+        let hi = held-in m bear b start held long there start-starts within low i in
+        let ha = held-above m bear b start held long there start-starts within low i in
+        let hb′ = held-below m bear b start held′ long′ there start-starts within low i in
+        let hi′ = held-in m bear b start held′ long′ there start-starts within low i in
+        let ha′ = held-above m bear b start held′ long′ there start-starts within low i in
+        ⊎-elim
+        (λ (k : i < start). hb′ k ∙ sym (over-below L o (cells run) fits-L i lost (omega (arith, from)) ∙ hb k))
+        (λ (k : start ≤ i). ⊎-elim
+        (λ (j : i < start + m .batch).
+        hi′ k j ∙ ⊎-elim
+        (λ (n : i < o).
+        ap byte (over-below held (o - start) run fits-held (i - start) 0 (omega arith)) ∙ sym (over-below L o (cells run) fits-L i lost n ∙ hi k j))
+        (λ (n : o ≤ i). ⊎-elim
+        (λ (e : i < o + length run).
+        let z : i - start - (o - start) ≡ i - o = omega (arith, from) in
+        ap byte (over-in held (o - start) run fits-held (i - start) 0 (omega arith) (omega arith) ∙ ap (λ (x : ℕ). getD run x 0) z)
+        ∙ sym (over-in L o (cells run) fits-L i lost n (omega (arith, length-map run byte)) ∙ getD-map byte run (i - o) 0 lost (omega arith)))
+        (λ (e : o + length run ≤ i).
+        ap byte (over-above held (o - start) run fits-held (i - start) 0 (omega (arith, from)))
+        ∙ sym (over-above L o (cells run) fits-L i lost (omega (arith, length-map run byte)) ∙ hi k j))
+        (cases-lt i (o + length run)))
+        (cases-lt i o))
+        (λ (j : start + m .batch ≤ i). ha′ j ∙ sym (over-above L o (cells run) fits-L i lost (omega (arith, length-map run byte, from)) ∙ ha j))
+        (cases-lt i (start + m .batch)))
+        (cases-lt i start))
 
     used-grows : used held ≤ o - start → used held ≤ used held′
     used-grows h =
         ⊎-elim
-          (λ (z : 0 < used held).
-            omega (arith, used-above held′ (used held - 1) (omega (arith, long′, used-le held, long))
-              (λ e. used-last held z (sym (over-below held (o - start) run fits-held (used held - 1) 0 (omega arith)) ∙ e))))
-          (λ (z : used held ≤ 0). omega arith) (cases-lt 0 (used held))
+        (λ (z : 0 < used held).
+        omega (
+          arith,
+          used-above held′ (used held - 1) (omega (arith, long′, used-le held, long))
+              (λ e. used-last held z (sym (over-below held (o - start) run fits-held (used held - 1) 0 (omega arith)) ∙ e)),
+        ))
+        (λ (z : used held ≤ 0). omega arith) (cases-lt 0 (used held))
 
     used-ends : used held ≤ o - start → used held′ ≤ o - start + length run
     used-ends h =
         used-below held′ (o - start + length run)
-          (λ i k l. over-above held (o - start) run fits-held i 0 k ∙ used-from held i (omega arith) (omega (arith, long, long′)))
+        (λ i k l. over-above held (o - start) run fits-held i 0 k ∙ used-from held i (omega arith) (omega (arith, long, long′)))
 
     module _ (st : State) (hold : Holding m st held) (near : Near st (m .batch) b o) (top : marks m st held b ≤ o) where
       shown-was : (i : ℕ) → shows m st held i ≡ with-at (m .shown) b L i
@@ -144,7 +147,7 @@ module _ (m : Meaning) (bear : Bearing m) (b o : ℕ) where
 
       -- a run that stays within the batch
       module _ (short : o - start + length run < m .batch) (st′ : State) (near′ : Near st′ (m .batch) b o) (hold′ : Holding m st′ held′)
-               (high : marks m st′ held′ b ≤ o + length run) (rises : marks m st held b ≤ marks m st′ held′ b) where
+          (high : marks m st′ held′ b ≤ o + length run) (rises : marks m st held b ≤ marks m st′ held′ b) where
         stays : (held″ : List ℕ) → held″ ≡ held′ → buffered m st′ held″ ≡ programmed (buffered m st held) b o run (marks m st′ held′ b)
         unfolding buffered programmed
         stays held″ e =
@@ -152,22 +155,29 @@ module _ (m : Meaning) (bear : Bearing m) (b o : ℕ) where
             let y = over (shows m st held b) o (cells run) in
             let z : (o + length run) / m .batch * m .batch ≡ start = start-is (m .batch) (has-batch m bear) start (o + length run) start-starts (omega (arith, from)) (omega (arith, from)) in
             let shown-is : (i : ℕ) → shows m st′ held′ i ≡ with-at (shows m st held) b y i =
-                  λ i. near-shows held′ long′ st′ hold′ near′ there within low i
-                    ∙ (sym (mine-shown m bear held long b st (near-mine st (m .batch) b o near) L′ i) ∙ ap (λ (x : List Cell). with-at (shows m st held) b x i) lay-shown) in
+            λ i. near-shows held′ long′ st′ hold′ near′ there within low i
+            ∙ (sym (mine-shown m bear held long b st (near-mine st (m .batch) b o near) L′ i) ∙ ap (λ (x : List Cell). with-at (shows m st held) b x i) lay-shown) in
             let keeps : mixed ((o + length run) / m .batch * m .batch) y (m .settled b) ≡ m .settled b =
-                  rw (z, ← lay-shown, over-front (m .shown b) start (cells held′) (lies m bear b start held′ long′ there start-starts within low) start (omega arith), nothing-held m (bear .sane) (bear .whole) b there)
-                    (take-append-drop start (m .settled b)) in
+            rw (z, ← lay-shown, over-front (m .shown b) start (cells held′) (lies m bear b start held′ long′ there start-starts within low) start (omega arith), nothing-held m (bear .sane) (bear .whole) b there)
+            (take-append-drop start (m .settled b)) in
             let settled-is : (i : ℕ) → m .settled i ≡ with-at (m .settled) b (mixed ((o + length run) / m .batch * m .batch) y (m .settled b)) i =
-                  λ i. sym (unchanged (m .settled) b _ keeps i) in
+            λ i. sym (unchanged (m .settled) b _ keeps i) in
             let k = marks m st′ held′ b in
             let mark-is : (i : ℕ) → marks m st′ held′ i ≡ with-at (marks m st held) b k i =
-                  λ i. sym (unchanged (marks m st′ held′) b k refl i)
-                    ∙ (mine-mark m bear held′ long′ b st′ (near-mine st′ (m .batch) b o near′) k i
-                      ∙ sym (mine-mark m bear held long b st (near-mine st (m .batch) b o near) k i)) in
+            λ i. sym (unchanged (marks m st′ held′) b k refl i)
+            ∙ (mine-mark m bear held′ long′ b st′ (near-mine st′ (m .batch) b o near′) k i
+            ∙ sym (mine-mark m bear held long b st (near-mine st (m .batch) b o near) k i)) in
             ap (λ (x : List ℕ). buffered m st′ x) e
-              ∙ (λ u. record
-                { blocks = m .blocks; size = m .size; page = 4; batch = m .batch
-                ; shown = λ i. shown-is i u; settled = λ i. settled-is i u; mark = λ i. mark-is i u; power = m .power })
+            ∙ (λ u. record {
+              blocks = m .blocks;
+              size = m .size;
+              page = 4;
+              batch = m .batch;
+              shown = λ i. shown-is i u;
+              settled = λ i. settled-is i u;
+              mark = λ i. mark-is i u;
+              power = m .power;
+            })
 
         stays-passed : (held″ : List ℕ) → held″ ≡ held′ → Passed (buffered m st held) b o run (buffered m st′ held″)
         unfolding buffered
@@ -185,12 +195,13 @@ module _ (m : Meaning) (bear : Bearing m) (b o : ℕ) where
         keeps-none held″ e z =
             let z′ : used held′ ≡ 0 = ap used (sym e) ∙ z in
             let q = near-empty held long st hold (omega (arith, grows, z′)) in
-            ( stays-passed (omega arith) Empty tt z′ (omega (arith, q, top)) (omega (arith, q)) held″ e, z )
+            (stays-passed (omega arith) Empty tt z′ (omega (arith, q, top)) (omega (arith, q)) held″ e, z)
 
         pub keeps-some : (held″ : List ℕ) → held″ ≡ held′ → 0 < used held″ → Passed (buffered m st held) b o run (buffered m (Filling b start) held″) × Holding m (Filling b start) held″
         keeps-some held″ e z =
             let z′ : 0 < used held′ = omega (arith, z, ap used e) in
             let f : Fills m b start held′ = record { there = there; starts = start-starts; within = within; above = low; some = z′; short = omega (arith, ended) } in
-            let k = here (raised m) b (start + used held′) in
-            ( stays-passed (omega arith) (Filling b start) (refl, refl) f (omega (arith, k, ended, from)) (omega (arith, k, near-mark held long st hold near top, grows)) held″ e
-            , subst (λ (x : List ℕ). Fills m b start x) (sym e) f )
+            let k = here (raised m) b (start + used held′) in (
+              stays-passed (omega arith) (Filling b start) (refl, refl) f (omega (arith, k, ended, from)) (omega (arith, k, near-mark held long st hold near top, grows)) held″ e,
+              subst (λ (x : List ℕ). Fills m b start x) (sym e) f,
+            )

@@ -2,7 +2,7 @@
 use mathlib.Core.List.{List}
 use mathlib.Core.Logic.{⊎-elim}
 use mathlib.Core.Path.{_≡_, _∙_, sym, ap}
-use Prim.Native.Nat.{_+_, _-_, _*_, _/_, _%_, _^_, _<_, _≤_, ℕ}
+use Prim.Native.Nat.{_+_, _-_, _*_, _/_, _%_, _<_, _≤_, ℕ}
 use native.Mathlib.Nat.{mul-assoc, mul-mod-left, div-div-eq-div-mul, mul-comm}
 use native.Mathlib.Omega.{arith}
 use lib.ListN.{length, getD, length-map}
@@ -11,19 +11,11 @@ use Rattle.std.proofs.shelf.Tests.{cases-lt}
 use Rattle.flash.specs.Cells.{Cell, byte, lost, cells, over}
 use Rattle.flash.specs.Meaning.{Meaning, shown-at, settled-at}
 use Rattle.flash.proofs.Batches.{whole-batches}
-use Rattle.flash.proofs.Over.{elsewhere, over-length, over-below, over-in, over-above}
+use Rattle.flash.proofs.Over.{over-length, over-below, over-in, over-above}
 use Rattle.flash.proofs.Settled.{nothing-held}
-use Rattle.layers.specs.Batch.{used, up}
-use Rattle.layers.specs.Buffered.{raised, marks, Bearing}
-use Rattle.layers.specs.declared.buffer.State.{State}
-use Rattle.layers.specs.declared.buffer.State.the-variants.{Empty, Filling}
+use Rattle.layers.specs.Batch.{used}
+use Rattle.layers.specs.Buffered.{raised, Bearing}
 use Rattle.layers.proofs.Used.{used-from, up-at}
-
-pub mark-empty : (m : Meaning) (st : State) (held : List ℕ) (b : ℕ) → st ≡ Empty → marks m st held b ≡ raised m b
-mark-empty m st held b e = rw e
-
-pub mark-other : (m : Meaning) (c s : ℕ) (held : List ℕ) (b : ℕ) {st : State} → (b ≡ c → ⊥) → st ≡ Filling c s → marks m st held b ≡ raised m b
-mark-other m c s held b ne e = rw e (elsewhere (raised m) c (s + used held) b ne)
 
 pub byte-lost : {x : ℕ} → byte x ≡ lost → ⊥
 byte-lost h = let z : _≡_ {A = ℕ} 0 1 = cc in omega arith
@@ -38,16 +30,11 @@ module _ (m : Meaning) (bear : Bearing m) where
   pub raised-within : (b : ℕ) → b < m .blocks → raised m b ≤ m .size
   raised-within b h = up-at (m .batch) has-batch (m .size) (m .mark b) size-whole (bear .sane .mark-within b h)
 
-  pub raise-is : (batch b x r : ℕ) → m .batch ≡ batch → b < m .blocks → x ≡ m .mark b → (up batch x < 2 ^ 32 → r ≡ up batch x) → r ≡ raised m b
-  raise-is batch b x r e there h f =
-      let q : up batch x ≡ raised m b = ap (λ (g : ℕ). up g x) (sym e) ∙ ap (up (m .batch)) h in
-      f (omega (arith, q, raised-within b there, bear .sane .size-fits)) ∙ q
-
   pub words-at : (s : ℕ) → s / m .batch * m .batch ≡ s → s % 4 ≡ 0
   words-at s e =
       let q : m .batch / 4 * 4 ≡ m .batch = whole-batches (m .batch) 4 (bear .words) in
       let p : s ≡ s / m .batch * (m .batch / 4) * 4 =
-            sym e ∙ (ap (λ (g : ℕ). s / m .batch * g) (sym q) ∙ sym (mul-assoc (s / m .batch) (m .batch / 4) 4)) in
+      sym e ∙ (ap (λ (g : ℕ). s / m .batch * g) (sym q) ∙ sym (mul-assoc (s / m .batch) (m .batch / 4) 4)) in
       ap (λ (x : ℕ). x % 4) p ∙ mul-mod-left (s / m .batch * (m .batch / 4)) 4
 
   -- words lie in one batch or in two
@@ -81,7 +68,7 @@ module _ (m : Meaning) (bear : Bearing m) where
     pub held-in : (i : ℕ) → s ≤ i → i < s + m .batch → getD over-held i lost ≡ byte (getD held (i - s) 0)
     held-in i h l =
         over-in (m .shown b) s (cells held) lies i lost h (rw (length-map held byte, long) l)
-          ∙ cell-at held (i - s) (omega (arith, long))
+        ∙ cell-at held (i - s) (omega (arith, long))
 
     pub held-above : (i : ℕ) → s + m .batch ≤ i → getD over-held i lost ≡ shown-at m b i
     held-above i h = over-above (m .shown b) s (cells held) lies i lost (rw (length-map held byte, long) h)
@@ -109,19 +96,19 @@ module _ (m : Meaning) (bear : Bearing m) where
     pub held-none : used held ≡ 0 → over-held ≡ m .shown b
     held-none z =
         ext-getD lost over-held (m .shown b) (held-long ∙ sym (bear .sane .shown-length b there))
-          (λ i h.
-            let l : i < m .size = omega (arith, h, held-long) in
-            ⊎-elim (held-below i)
-              (λ (lo : s ≤ i). ⊎-elim
-                (λ (hi : i < s + m .batch).
-                  held-in i lo hi ∙ (ap byte (used-from held (i - s) (omega (arith, z)) (omega (arith, long))) ∙ sym (blank-below b s i there above lo l)))
-                (held-above i) (cases-lt i (s + m .batch)))
-              (cases-lt i s))
+        (λ i h.
+        let l : i < m .size = omega (arith, h, held-long) in
+        ⊎-elim (held-below i)
+        (λ (lo : s ≤ i). ⊎-elim
+        (λ (hi : i < s + m .batch).
+        held-in i lo hi ∙ (ap byte (used-from held (i - s) (omega (arith, z)) (omega (arith, long))) ∙ sym (blank-below b s i there above lo l)))
+        (held-above i) (cases-lt i (s + m .batch)))
+        (cases-lt i s))
 
     -- from the last byte that is not 0xFF on, all is 0xFF
     pub held-blank : (i : ℕ) → s + used held ≤ i → i < m .size → getD over-held i lost ≡ byte 255
     held-blank i lo l =
         ⊎-elim
-          (λ (hi : i < s + m .batch). held-in i (omega arith) hi ∙ ap byte (used-from held (i - s) (omega arith) (omega (arith, long))))
-          (λ (hi : s + m .batch ≤ i). held-above i hi ∙ blank-below b s i there above (omega arith) l)
-          (cases-lt i (s + m .batch))
+        (λ (hi : i < s + m .batch). held-in i (omega arith) hi ∙ ap byte (used-from held (i - s) (omega arith) (omega (arith, long))))
+        (λ (hi : s + m .batch ≤ i). held-above i hi ∙ blank-below b s i there above (omega arith) l)
+        (cases-lt i (s + m .batch))

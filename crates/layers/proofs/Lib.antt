@@ -2,6 +2,7 @@ pub mod Cover
 pub mod Keep
 pub mod Layer
 pub mod Look
+pub mod Marks
 pub mod Moves
 pub mod Others
 pub mod Put

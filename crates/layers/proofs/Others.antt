@@ -79,12 +79,12 @@ module _ (m : Meaning) (b : ℕ) where
     erased-other c s ne =
         let there : with-at (m .shown) b (blank (m .size)) c ≡ m .shown c = elsewhere (m .shown) b (blank (m .size)) c ne in
         let shown-is : (i : ℕ) → with-at (with-at (m .shown) b (blank (m .size))) c (over (with-at (m .shown) b (blank (m .size)) c) s (cells held)) i
-                ≡ with-at (with-at (m .shown) c (over (m .shown c) s (cells held))) b (blank (m .size)) i =
-              λ i. ap (λ (x : List Cell). with-at (with-at (m .shown) b (blank (m .size))) c (over x s (cells held)) i) there
-                ∙ swap (m .shown) c (over (m .shown c) s (cells held)) (blank (m .size)) ne i in
+        ≡ with-at (with-at (m .shown) c (over (m .shown c) s (cells held))) b (blank (m .size)) i =
+        λ i. ap (λ (x : List Cell). with-at (with-at (m .shown) b (blank (m .size))) c (over x s (cells held)) i) there
+        ∙ swap (m .shown) c (over (m .shown c) s (cells held)) (blank (m .size)) ne i in
         let mark-is : (i : ℕ) → with-at (λ j. up (m .batch) (with-at (m .mark) b 0 j)) c (s + used held) i ≡ with-at (with-at (raised m) c (s + used held)) b 0 i =
-              λ i. by-place (λ v. cond v (s + used held) (up (m .batch) (with-at (m .mark) b 0 i)) ≡ cond v (s + used held) (with-at (raised m) b 0 i)) i c (λ _. refl) (λ _. erased-mark i)
-                ∙ swap (raised m) c (s + used held) 0 ne i in
+        λ i. by-place (λ v. cond v (s + used held) (up (m .batch) (with-at (m .mark) b 0 i)) ≡ cond v (s + used held) (with-at (raised m) b 0 i)) i c (λ _. refl) (λ _. erased-mark i)
+        ∙ swap (raised m) c (s + used held) 0 ne i in
         λ u. record {
           blocks = m .blocks;
           size = m .size;
@@ -161,60 +161,66 @@ module _ {ok ok′ : Type 0} (m n : Meaning) (batch : ℕ) (held : List ℕ) (sm
       erases-mine : Mine st b → n ≡ erased m b → (rest : List ℕ) → rest ≡ replicate 512 255
           → Sound ok′ n batch Empty rest × Erased (buffered m st (take batch held)) b (Ok tt) (buffered n Empty (take batch rest))
       erases-mine mine i rest q =
-          let a = erased-bears i in
-          ( empty-sound ok′ n batch k (a .0) (a .1) small q
-          , Erased.done (same-place m st (take batch held) b 0 0 ∙ none) refl
-            (ap (λ (x : Meaning). buffered x Empty (take batch rest)) i ∙ erased-mine m b (s .bears) (take batch held) long st mine (take batch rest)) )
+          let a = erased-bears i in (
+            empty-sound ok′ n batch k (a .0) (a .1) small q,
+            Erased.done (same-place m st (take batch held) b 0 0 ∙ none) refl
+                (ap (λ (x : Meaning). buffered x Empty (take batch rest)) i ∙ erased-mine m b (s .bears) (take batch held) long st mine (take batch rest)),
+          )
 
       erase-fails : (xs : List Cell) (f : ℕ → ℕ) → m .power ≡ armed → length xs ≡ m .size
           → ((i : ℕ) → Worn (batch-of m i (m .settled b)) (batch-of m i xs)) → n ≡ broken m b xs f → (rest : List ℕ) → rest ≡ replicate 512 255
           → Sound ok′ n batch Empty rest × Erased (buffered m st (take batch held)) b (Err NoPower) (buffered n Empty (take batch rest))
       erase-fails xs f a l w e rest q =
-          let u = shaped (ap (λ (x : Meaning). x .page) e ∙ broken-shape m b xs f .0) (ap (λ (x : Meaning). x .batch) e ∙ broken-shape m b xs f .1) in
-          ( empty-sound ok′ n batch k (u .0) (u .1) small q
-          , failed-buffered m st (take batch held) b (buffered n Empty (take batch rest)) xs (λ i. up (m .batch) (f i)) none a l w
-            (ap (λ (x : Meaning). buffered x Empty (take batch rest)) e ∙ broken-buffered m st (take batch held) (take batch rest) b xs f) )
+          let u = shaped (ap (λ (x : Meaning). x .page) e ∙ broken-shape m b xs f .0) (ap (λ (x : Meaning). x .batch) e ∙ broken-shape m b xs f .1) in (
+            empty-sound ok′ n batch k (u .0) (u .1) small q,
+            failed-buffered m st (take batch held) b (buffered n Empty (take batch rest)) xs (λ i. up (m .batch) (f i)) none a l w
+                (ap (λ (x : Meaning). buffered x Empty (take batch rest)) e ∙ broken-buffered m st (take batch held) (take batch rest) b xs f),
+          )
 
     pub restarts : Restarted m n → (rest : List ℕ) → rest ≡ replicate 512 255 → Sound ok′ n batch Empty rest × Restarted (buffered m st (take batch held)) (buffered n Empty (take batch rest))
     restarts r rest q =
-        let a = shaped (ap (λ (x : Meaning). x .page) (r .is) ∙ restarted-shape m (r .marks) .0) (ap (λ (x : Meaning). x .batch) (r .is) ∙ restarted-shape m (r .marks) .1) in
-        ( empty-sound ok′ n batch k (a .0) (a .1) small q
-        , record {
+        let a = shaped (ap (λ (x : Meaning). x .page) (r .is) ∙ restarted-shape m (r .marks) .0) (ap (λ (x : Meaning). x .batch) (r .is) ∙ restarted-shape m (r .marks) .1) in (
+          empty-sound ok′ n batch k (a .0) (a .1) small q,
+          record {
             marks = λ i. up (m .batch) (r .marks i);
             is = ap (λ (x : Meaning). buffered x Empty (take batch rest)) (r .is) ∙ restarted-buffered m st (take batch held) (take batch rest) (r .marks);
-          } )
+          },
+        )
 
     pub arms : (r : Answer) → Armed m r n → Sound ok′ n batch st held × Armed (buffered m st (take batch held)) r (buffered n st (take batch held))
-    arms r (Armed.refused e h q i) =
-        ( record {
-            below = k;
-            bears = subst Bearing (sym i) (s .bears);
-            same = ap (λ (x : Meaning). x .batch) i ∙ s .same;
-            holding = subst (λ (x : Meaning). Holding x st (take batch held)) (sym i) (s .holding);
-          }
-        , Armed.refused e (arm-same m st (take batch held) ∙ h) q (ap (λ (x : Meaning). buffered x st (take batch held)) i) )
+    arms r (Armed.refused e h q i) = (
+      record {
+        below = k;
+        bears = subst Bearing (sym i) (s .bears);
+        same = ap (λ (x : Meaning). x .batch) i ∙ s .same;
+        holding = subst (λ (x : Meaning). Holding x st (take batch held)) (sym i) (s .holding);
+      },
+      Armed.refused e (arm-same m st (take batch held) ∙ h) q (ap (λ (x : Meaning). buffered x st (take batch held)) i),
+    )
     arms r (Armed.done h q i) =
-        let a = shaped (ap (λ (x : Meaning). x .page) i ∙ powered-shape m .0) (ap (λ (x : Meaning). x .batch) i ∙ powered-shape m .1) in
-        ( record {
+        let a = shaped (ap (λ (x : Meaning). x .page) i ∙ powered-shape m .0) (ap (λ (x : Meaning). x .batch) i ∙ powered-shape m .1) in (
+          record {
             below = k;
             bears = a .0;
             same = a .1;
             holding = subst (λ (x : Meaning). Holding x st (take batch held)) (sym i) (powered-holding m st (take batch held) (s .holding));
-          }
-        , Armed.done (arm-same m st (take batch held) ∙ h) q (ap (λ (x : Meaning). buffered x st (take batch held)) i ∙ powered-buffered m st (take batch held)) )
+          },
+          Armed.done (arm-same m st (take batch held) ∙ h) q (ap (λ (x : Meaning). buffered x st (take batch held)) i ∙ powered-buffered m st (take batch held)),
+        )
 
   erases-other : (b : ℕ) → place-refusal m b 0 0 ≡ None → (c t : ℕ) (s : Sound ok m batch (Filling c t) held) → (c ≡ b → ⊥) → n ≡ erased m b
       → Sound ok′ n batch (Filling c t) held × Erased (buffered m (Filling c t) (take batch held)) b (Ok tt) (buffered n (Filling c t) (take batch held))
   erases-other b none c t s ne i =
-      let a = erased-bears (Filling c t) s b none i in
-      ( record {
+      let a = erased-bears (Filling c t) s b none i in (
+        record {
           below = k;
           bears = a .0;
           same = a .1;
           holding = subst (λ (x : Meaning). Fills x c t (take batch held)) (sym i) (erased-fills m b (s .bears) (take batch held) c t ne (s .holding));
-        }
-      , Erased.done (same-place m (Filling c t) (take batch held) b 0 0 ∙ none) refl
-        (ap (λ (x : Meaning). buffered x (Filling c t) (take batch held)) i ∙ erased-other m b (s .bears) (take batch held) c t ne) )
+        },
+        Erased.done (same-place m (Filling c t) (take batch held) b 0 0 ∙ none) refl
+            (ap (λ (x : Meaning). buffered x (Filling c t) (take batch held)) i ∙ erased-other m b (s .bears) (take batch held) c t ne),
+      )
 
   -- an erase that was done, by what it leaves held
   erases-done : (b : ℕ) → place-refusal m b 0 0 ≡ None → (st : State) (s : Sound ok m batch st held) → n ≡ erased m b

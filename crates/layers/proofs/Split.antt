@@ -52,13 +52,13 @@ module _ (k : ℕ) (bytes : List ℕ) (within : k ≤ length bytes) where
     pub split-rest : (n : Meaning) → Goes m b o front (Ok tt) n → program-refusal n b (o + k) (length behind) ≡ None
     split-rest n g =
         subst (λ (x : ℕ). program-refusal n b (o + x) (length behind) ≡ None) front-long
-          (chain-rest m b o front behind sane none′ pages′ n (chain-passed m b o front behind sane none′ pages′ n g))
+        (chain-rest m b o front behind sane none′ pages′ n (chain-passed m b o front behind sane none′ pages′ n g))
 
     pub split-then : (n n′ : Meaning) (r : Answer) → Goes m b o front (Ok tt) n → Goes n b (o + k) behind r n′ → Goes m b o bytes r n′
     split-then n n′ r g h =
         subst (λ (x : List ℕ). Goes m b o x r n′) joined-is
-          (chain-then m b o front behind sane none′ pages′ n n′ r (chain-passed m b o front behind sane none′ pages′ n g)
-            (subst (λ (x : ℕ). Goes n b (o + x) behind r n′) (sym front-long) h))
+        (chain-then m b o front behind sane none′ pages′ n n′ r (chain-passed m b o front behind sane none′ pages′ n g)
+        (subst (λ (x : ℕ). Goes n b (o + x) behind r n′) (sym front-long) h))
 
     pub split-failed : (n : Meaning) (e : Refusal) → Goes m b o front (Err e) n → Goes m b o bytes (Err e) n
     split-failed n e g = subst (λ (x : List ℕ). Goes m b o x (Err e) n) joined-is (chain-failed m b o front behind sane none′ pages′ n e g)
@@ -109,12 +109,12 @@ module _ (m n : Meaning) (b o : ℕ) (bytes : List ℕ) (sane : Sane m) (none : 
   pub nothing-rest : program-refusal n b o (length bytes) ≡ None
   nothing-rest =
       subst (λ (x : ℕ). program-refusal n b x (length bytes) ≡ None) at-zero
-        (chain-rest m b o [] bytes sane none (zero-mod (m .page)) n (chain-passed m b o [] bytes sane none (zero-mod (m .page)) n first))
+      (chain-rest m b o [] bytes sane none (zero-mod (m .page)) n (chain-passed m b o [] bytes sane none (zero-mod (m .page)) n first))
 
   nothing-on : (n′ : Meaning) (r : Answer) → Goes n b o bytes r n′ → Goes m b o bytes r n′
   nothing-on n′ r g =
       chain-then m b o [] bytes sane none (zero-mod (m .page)) n n′ r (chain-passed m b o [] bytes sane none (zero-mod (m .page)) n first)
-        (subst (λ (x : ℕ). Goes n b x bytes r n′) (sym at-zero) g)
+      (subst (λ (x : ℕ). Goes n b x bytes r n′) (sym at-zero) g)
 
 pub nothing-then : (m n n′ : Meaning) (b o : ℕ) (bytes : List ℕ) (r : Answer) (sane : Sane m) (none : program-refusal m b o (length bytes) ≡ None) → Goes m b o [] (Ok tt) n → Goes n b o bytes r n′ → Goes m b o bytes r n′
 nothing-then m n n′ b o bytes r sane none first g = nothing-on m n b o bytes sane none first n′ r g

@@ -12,7 +12,8 @@ use Rattle.flash.specs.Meaning.{Meaning, Sane}
 use Rattle.flash.specs.Rules.{Shaped}
 use Rattle.flash.specs.declared.place.Shape.{Shape}
 use Rattle.layers.specs.Batch.{used, suits}
-use Rattle.layers.specs.Buffered.{Sound}
+use Rattle.layers.specs.Buffered.{buffered, Sound}
+use Rattle.layers.specs.declared.buffer.State.{State}
 use Rattle.layers.specs.declared.buffer.State.the-variants.{Empty}
 use Rattle.layers.proofs.Used.{used-below}
 
@@ -51,3 +52,8 @@ module _ (m : Meaning) (shape : Shape) (shaped : Shaped shape m) where
         same = sym (shaped .3);
         holding = rw (e, take-replicate {X = ℕ} (shape .batch) 512 255 (q .2)) (used-blank (shape .batch));
       }
+
+pub words-shaped : (m : Meaning) (st : State) (held : List ℕ) (below shape : Shape) → Shaped below m → (shape .blocks ≡ below .blocks) × (shape .size ≡ below .size) × (shape .page ≡ 4) × (shape .batch ≡ below .batch)
+    → Shaped shape (buffered m st held)
+unfolding buffered
+words-shaped m st held below shape b e = (e .0 ∙ b .0, e .1 ∙ b .1, e .2, e .3 ∙ b .3)

@@ -8,11 +8,13 @@ use native.Mathlib.Omega.{arith}
 use lib.ListN.{length}
 use lib.Dec.{leb}
 use Rattle.std.proofs.shelf.Ways.{leb-tells}
+use Rattle.std.specs.declared.option.Option.the-variants.{Some, None}
+use Rattle.flash.specs.Cells.{cells, over}
 use Rattle.flash.specs.Meaning.{Meaning}
 use Rattle.flash.specs.Refused.{other-held}
-use Rattle.flash.proofs.Over.{by-place}
-use Rattle.layers.specs.Batch.{turn, is-other}
-use Rattle.layers.specs.Buffered.{buffered, Holding, Bearing}
+use Rattle.flash.proofs.Over.{by-place, elsewhere}
+use Rattle.layers.specs.Batch.{used, turn, is-other, begins}
+use Rattle.layers.specs.Buffered.{shows, raised, marks, buffered, Holding, Bearing}
 use Rattle.layers.specs.declared.buffer.State.{State}
 use Rattle.layers.specs.declared.buffer.State.the-variants.{Empty, Filling}
 use Rattle.layers.specs.declared.buffer.Turn.the-variants.{Other, First, Here}
@@ -45,6 +47,31 @@ module _ (b o g : ℕ) where
       (λ _ h. absurd (let z : _≡_ {A = ℕ} 0 1 = cc in omega arith))
       (λ k _. (sym e, k)))
       (λ _ h. absurd (let z : _≡_ {A = ℕ} 0 1 = cc in omega arith))
+
+-- the held batch of a block
+pub begins-at : (st : State) (b s : ℕ) → Some s ≡ begins st b → st ≡ Filling b s
+begins-at Empty b s h = absurd (let z : _≡_ {A = ℕ} 0 1 = cc in omega arith)
+begins-at (Filling c t) b s h =
+    (by-place (λ v. Some s ≡ cond v (Some t) None → Filling c t ≡ Filling b s) c b
+    (λ e h. let f : t ≡ s = cc in λ u. Filling (e u) (f u))
+    (λ _ h. absurd (let z : _≡_ {A = ℕ} 0 1 = cc in omega arith)))
+    h
+
+-- a block without one is as below
+module _ (m : Meaning) (held : List ℕ) (b : ℕ) where
+  apart : (c s : ℕ) → None ≡ begins (Filling c s) b → b ≡ c → ⊥
+  apart c s =
+      by-place (λ v. None ≡ cond v (Some s) None → b ≡ c → ⊥) c b
+      (λ _ h. absurd (let z : _≡_ {A = ℕ} 0 1 = cc in omega arith))
+      (λ ne _ q. ne (sym q))
+
+  pub none-shown : (st : State) → None ≡ begins st b → shows m st held b ≡ m .shown b
+  none-shown Empty h = refl
+  none-shown (Filling c s) h = elsewhere (m .shown) c (over (m .shown c) s (cells held)) b (apart c s h)
+
+  pub none-mark : (st : State) → None ≡ begins st b → marks m st held b ≡ raised m b
+  none-mark Empty h = refl
+  none-mark (Filling c s) h = elsewhere (raised m) c (s + used held) b (apart c s h)
 
 module _ (m : Meaning) (bear : Bearing m) (held : List ℕ) (long : length held ≡ m .batch) (b o g : ℕ) where
   no-other : (c s : ℕ) (t : Bool) → is-other (cond t (First c s) Here) ≡ false

@@ -84,14 +84,14 @@ module _ (g : ℕ) (some : 0 < g) where
   unfolding up
   up-least x c h =
       ⊎-elim (λ (l : c * g < (x + (g - 1)) / g * g). absurd (omega (arith, next-batch g some c ((x + (g - 1)) / g) l, end-le g some (x + (g - 1)))))
-        (λ l. l) (cases-lt (c * g) ((x + (g - 1)) / g * g))
+      (λ l. l) (cases-lt (c * g) ((x + (g - 1)) / g * g))
 
   -- where it stays at or below x, it stays at or below the start of x's batch
   pub up-start : (x y : ℕ) → up g x ≤ y → up g x ≤ y / g * g
   unfolding up
   up-start x y h =
       ⊎-elim (λ (l : y / g * g < (x + (g - 1)) / g * g). absurd (omega (arith, next-batch g some (y / g) ((x + (g - 1)) / g) l, end-more g some y)))
-        (λ l. l) (cases-lt (y / g * g) ((x + (g - 1)) / g * g))
+      (λ l. l) (cases-lt (y / g * g) ((x + (g - 1)) / g * g))
 
   pub up-mono : (x y : ℕ) → x ≤ y → up g x ≤ up g y
   unfolding up
@@ -107,7 +107,7 @@ module _ (g : ℕ) (some : 0 < g) where
   start-is s x e lo hi =
       let a : s / g * g ≤ x / g * g = end-mono g some s x lo in
       ⊎-elim (λ (l : s / g * g < x / g * g). absurd (omega (arith, next-batch g some (s / g) (x / g) l, end-le g some x)))
-        (λ (l : x / g * g ≤ s / g * g). omega (arith, a, l, e)) (cases-lt (s / g * g) (x / g * g))
+      (λ (l : x / g * g ≤ s / g * g). omega (arith, a, l, e)) (cases-lt (s / g * g) (x / g * g))
 
   -- the start of the next batch
   pub next-is : (s : ℕ) → s / g * g ≡ s → (s + g) / g * g ≡ s + g
@@ -115,4 +115,4 @@ module _ (g : ℕ) (some : 0 < g) where
       let a = end-le g some (s + g) in
       let c = end-more g some (s + g) in
       ⊎-elim (λ (l : s / g * g < (s + g) / g * g). omega (arith, next-batch g some (s / g) ((s + g) / g) l, a, e))
-        (λ (l : (s + g) / g * g ≤ s / g * g). absurd (omega (arith, l, e, c))) (cases-lt (s / g * g) ((s + g) / g * g))
+      (λ (l : (s + g) / g * g ≤ s / g * g). absurd (omega (arith, l, e, c))) (cases-lt (s / g * g) ((s + g) / g * g))

@@ -7,6 +7,7 @@
 -- caused    why a program of n bytes at o is refused whose block is there and has power: outside, not whole words, below
 --           the mark, another block has bytes held
 -- begun     the state of a buffer whose batch at s of the block b is used so far
+-- begins    where the held batch of the block b begins, if it has one
 -- left      the state that an erase of a block with an answer leaves: another block's batch stays held, if the power lasts
 -- kept      the array of held bytes in a state: an empty buffer has nothing left of them
 use mathlib.Core.Bool.{Bool, true, false, cond, not}
@@ -15,6 +16,7 @@ use Prim.Native.Nat.{ℕ, zero, suc, _+_, _-_, _*_, _/_, _%_}
 use lib.Dec.{eqb, ltb, leb}
 use lib.ListN.{replicate}
 use Rattle.std.specs.declared.option.Option.{Option}
+use Rattle.std.specs.declared.option.Option.the-variants.{Some, None}
 use Rattle.std.specs.declared.result.Result.the-variants.{Ok, Err}
 use Rattle.flash.specs.declared.refusal.Refusal.{Refusal}
 use Rattle.flash.specs.declared.refusal.Refusal.the-variants.{Outside, NotPages, BelowMark, OtherHeld}
@@ -51,14 +53,18 @@ is-other Here = false
 abbrev pub caused : ℕ → ℕ → ℕ → ℕ → Turn → Option Refusal
 caused size mark o n t =
     first
-    ( (ltb size (o + n), Outside)
+    ((ltb size (o + n), Outside)
     ∷ (cond (eqb (o % 4) 0) (not (eqb (n % 4) 0)) true, NotPages)
     ∷ (ltb o mark, BelowMark)
     ∷ (is-other t, OtherHeld)
-    ∷ [] )
+    ∷ [])
 
 abbrev pub begun : ℕ → ℕ → ℕ → State
 begun used b s = cond (eqb used 0) Empty (Filling b s)
+
+abbrev pub begins : State → ℕ → Option ℕ
+begins Empty b = None
+begins (Filling c s) b = cond (eqb c b) (Some s) None
 
 abbrev pub without : State → ℕ → State
 without Empty b = Empty

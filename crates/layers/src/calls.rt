@@ -16,9 +16,11 @@ use crate::batch::fresh;
 use crate::batch::raise;
 use crate::buffer::State;
 use crate::buffer::WriteBuffer;
+use crate::causes::begins;
 use crate::causes::cause;
 use crate::causes::decide;
 use crate::causes::fits;
+use crate::causes::kept;
 use crate::causes::left;
 use crate::causes::words;
 use flash::interface::Flash;
@@ -62,11 +64,9 @@ impl<F: Flash> WriteBuffer<F> {
     fn end_over(&self, block: usize, mark: usize) -> usize
         ensures { λ r. ⌜ (sound (F·Flash .ok) (F·Flash .meaning) (now (self .entry)) → block < F·Flash .meaning (now (self .entry) .below) .blocks → mark ≡ F·Flash .meaning (now (self .entry) .below) .mark block → r ≡ means (F·Flash .meaning) (now (self .entry)) .mark block) ⌝ }
     {
-        match self.state {
-            State::Filling { block: b, start } if b == block => {
-                start.saturating_add(filled(&self.held[0..self.batch]))
-            }
-            _ => raise(mark, self.batch),
+        match begins(self.state, block) {
+            Some(start) => start.saturating_add(filled(&self.held[0..self.batch])),
+            None => raise(mark, self.batch),
         }
     }
 
@@ -102,9 +102,7 @@ impl<F: Flash> WriteBuffer<F> {
         ensures state { λ _. ⌜ now (self .exit) .state ≡ state ⌝ }
         ensures held { λ _. ⌜ now (self .exit) .held ≡ kept state (now (self .entry) .held) ⌝ }
     {
-        if let State::Empty = state {
-            self.held = fresh();
-        }
+        self.held = kept(state, self.held);
         self.state = state;
     }
 }
@@ -124,10 +122,8 @@ pub impl<F: Flash> Flash for WriteBuffer<F> as WriteBufferFlash {
 
     fn read(&self, at: Place, out: &mut [u8]) -> Result<(), Refusal> {
         self.below.read(at, out)?;
-        if let State::Filling { block, start } = self.state {
-            if block == at.block {
-                cover(out, at.offset, &self.held[0..self.batch], start);
-            }
+        if let Some(start) = begins(self.state, at.block) {
+            cover(out, at.offset, &self.held[0..self.batch], start);
         }
         Ok(())
     }

@@ -1,8 +1,10 @@
 // The small decisions of a write buffer: where it fits, what it shows, and what it asks, refuses and forgets.
 ghost use mathlib.Core.Path.{_≡_};
 ghost use Prim.Native.Nat.{_+_, _-_, _*_, _%_, _^_, _<_, _≤_};
+ghost use lib.ListN.{length};
 ghost use Rattle.std.specs.declared.option.Option.the-variants.{None};
-ghost use Rattle.layers.specs.Batch.{suits, turn, caused, begun, left};
+ghost use Rattle.layers.specs.Batch.{suits, turn, caused, begins, begun, kept, left};
+use crate::batch::fresh;
 use crate::buffer::State;
 use crate::buffer::Turn;
 use flash::place::Place;
@@ -31,10 +33,7 @@ pub(crate) fn decide(state: State, at: Place, batch: usize) -> Turn
         (State::Empty, _) => Turn::Here,
         (State::Filling { block, .. }, Place { block: b, .. }) if b != block => Turn::Other,
         (State::Filling { block, start }, Place { offset, .. })
-            if start <= offset && batch <= offset - start =>
-        {
-            Turn::First { block, start }
-        }
+            if start <= offset && batch <= offset - start => { Turn::First { block, start } }
         _ => Turn::Here,
     }
 }
@@ -73,12 +72,36 @@ pub(crate) fn begin(used: usize, at: Place, batch: usize) -> State
     }
 }
 
+// Where the held batch of a block begins, if it has one.
+pub(crate) fn begins(state: State, block: usize) -> Option<usize>
+    ensures { λ r. ⌜ r ≡ begins state block ⌝ }
+{
+    match state {
+        State::Filling { block: b, start } if b == block => Some(start),
+        _ => None,
+    }
+}
+
 // The state after an erase of a block: what was held of it is gone, and all that was held if the power failed.
 pub(crate) fn left(answer: Result<(), Refusal>, state: State, block: usize) -> State
     ensures { λ r. ⌜ r ≡ left answer state block ⌝ }
 {
     match (answer, state) {
-        (Ok(()), State::Filling { block: b, start }) if b != block => State::Filling { block: b, start },
+        (Ok(()), State::Filling { block: b, start }) if b != block => State::Filling {
+            block: b,
+            start,
+        },
         _ => State::Empty,
+    }
+}
+
+// The array of held bytes in a state: an empty buffer has nothing left of them.
+pub(crate) fn kept(state: State, held: [u8; 512]) -> [u8; 512]
+    ensures value { λ r. ⌜ r ≡ kept state held ⌝ }
+    ensures long { λ r. ⌜ (length held ≡ 512 → length r ≡ 512) ⌝ }
+{
+    match state {
+        State::Empty => fresh(),
+        _ => held,
     }
 }

@@ -8,9 +8,10 @@ use Rattle.layers.proofs.batch.filled.Needs.{then-x, else-x}
 pub loop-i-again : need.loop-i-again
 loop-i-again c =
     let m = used-more (c .args .part .now) (c .loop-i .i) _ (c .loop-i-test .taken) refl in
-    elim (c .if-x .came)
-      [ then-x w ↦ w .end-is ∙ sym (m ∙ rw (ne-eqb _ _ (w .if-x .taken)))
-      | else-x w ↦ w .end-is ∙ (c .loop-i .inv ∙ sym (m ∙ rw (eq-eqb _ _ (w .if-x .left)))) ]
+    elim (c .if-x .came) [
+      | then-x w ↦ w .end-is ∙ sym (m ∙ rw (ne-eqb _ _ (w .if-x .taken)))
+      | else-x w ↦ w .end-is ∙ (c .loop-i .inv ∙ sym (m ∙ rw (eq-eqb _ _ (w .if-x .left))))
+    ]
 
 pub returns : need.returns
 returns c =
