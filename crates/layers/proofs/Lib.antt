@@ -1,3 +1,4 @@
+pub mod Buffers
 pub mod Cover
 pub mod Keep
 pub mod Layer

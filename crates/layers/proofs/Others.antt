@@ -11,17 +11,21 @@ use Rattle.std.specs.declared.result.Result.the-variants.{Ok, Err}
 use Rattle.flash.specs.Cells.{Cell, cells, blank, over}
 use Rattle.flash.specs.Meaning.{Meaning, Sane, armed, with-at}
 use Rattle.flash.specs.Refused.{place-refusal, arm-refusal}
-use Rattle.flash.specs.Rules.{Answer, broken, erased, batch-of, Worn, Erased, powered, Armed, restarted, Restarted}
+use Rattle.flash.specs.Rules.{Answer, broken, erased, batch-of, Worn, Erased, powered, Armed, restarted, Restarted, mark-answer}
+use Rattle.flash.specs.declared.refusal.Refusal.{Refusal}
 use Rattle.flash.specs.declared.refusal.Refusal.the-variants.{NoPower}
 use Rattle.flash.proofs.Over.{by-place, here, elsewhere}
-use Rattle.flash.proofs.Refusals.{not-some}
+use Rattle.flash.proofs.Refusals.{not-some, refused-as}
 use Rattle.layers.specs.Batch.{used, up, without, left, kept}
-use Rattle.layers.specs.Buffered.{raised, marks, buffered, Fills, Holding, Bearing, Sound}
+use Rattle.layers.specs.Buffered.{raised, marks, buffered, Fills, Holding, Bearing, Sound, means, sound}
 use Rattle.layers.specs.declared.buffer.State.{State}
 use Rattle.layers.specs.declared.buffer.State.the-variants.{Empty, Filling}
+use Rattle.layers.specs.declared.buffer.WriteBuffer.{WriteBuffer}
+use Rattle.layers.proofs.Buffers.{sane-of}
 use Rattle.layers.proofs.Layer.{has-batch}
 use Rattle.layers.proofs.Moves.{full-long, empty-sound}
-use Rattle.layers.proofs.Refuse.{same-place, mark-is}
+use Rattle.layers.proofs.Refuse.{same-place, mark-place, mark-is}
+use Rattle.layers.proofs.Sanity.{sane-buffered}
 use Rattle.layers.proofs.Start.{starts}
 use Rattle.layers.proofs.Steps.{Mine, mine-shown, mine-mark}
 use Rattle.layers.proofs.Used.{up-zero}
@@ -177,7 +181,7 @@ module _ {ok ok′ : Type 0} (m n : Meaning) (batch : ℕ) (held : List ℕ) (sm
                 (ap (λ (x : Meaning). buffered x Empty (take batch rest)) e ∙ broken-buffered m st (take batch held) (take batch rest) b xs f),
           )
 
-    pub restarts : Restarted m n → (rest : List ℕ) → rest ≡ replicate 512 255 → Sound ok′ n batch Empty rest × Restarted (buffered m st (take batch held)) (buffered n Empty (take batch rest))
+    restarts : Restarted m n → (rest : List ℕ) → rest ≡ replicate 512 255 → Sound ok′ n batch Empty rest × Restarted (buffered m st (take batch held)) (buffered n Empty (take batch rest))
     restarts r rest q =
         let a = shaped (ap (λ (x : Meaning). x .page) (r .is) ∙ restarted-shape m (r .marks) .0) (ap (λ (x : Meaning). x .batch) (r .is) ∙ restarted-shape m (r .marks) .1) in (
           empty-sound ok′ n batch k (a .0) (a .1) small q,
@@ -187,8 +191,8 @@ module _ {ok ok′ : Type 0} (m n : Meaning) (batch : ℕ) (held : List ℕ) (sm
           },
         )
 
-    pub arms : (r : Answer) → Armed m r n → Sound ok′ n batch st held × Armed (buffered m st (take batch held)) r (buffered n st (take batch held))
-    arms r (Armed.refused e h q i) = (
+    arms-sound : (r : Answer) → Armed m r n → Sound ok′ n batch st held × Armed (buffered m st (take batch held)) r (buffered n st (take batch held))
+    arms-sound r (Armed.refused e h q i) = (
       record {
         below = k;
         bears = subst Bearing (sym i) (s .bears);
@@ -197,7 +201,7 @@ module _ {ok ok′ : Type 0} (m n : Meaning) (batch : ℕ) (held : List ℕ) (sm
       },
       Armed.refused e (arm-same m st (take batch held) ∙ h) q (ap (λ (x : Meaning). buffered x st (take batch held)) i),
     )
-    arms r (Armed.done h q i) =
+    arms-sound r (Armed.done h q i) =
         let a = shaped (ap (λ (x : Meaning). x .page) i ∙ powered-shape m .0) (ap (λ (x : Meaning). x .batch) i ∙ powered-shape m .1) in (
           record {
             below = k;
@@ -231,7 +235,7 @@ module _ {ok ok′ : Type 0} (m n : Meaning) (batch : ℕ) (held : List ℕ) (sm
       (λ e. erases-mine (Filling c t) s b none e i (replicate 512 255) refl)
       (λ e. erases-other b none c t s e i)
 
-  pub erases : (b : ℕ) → place-refusal m b 0 0 ≡ None → (st : State) (s : Sound ok m batch st held) (r : Answer) → Erased m b r n
+  erases : (b : ℕ) → place-refusal m b 0 0 ≡ None → (st : State) (s : Sound ok m batch st held) (r : Answer) → Erased m b r n
       → Sound ok′ n batch (left r st b) (kept (left r st b) held) × Erased (buffered m st (take batch held)) b r (buffered n (left r st b) (take batch (kept (left r st b) held)))
   erases b none st s r (Erased.refused e h q i) = absurd (not-some (sym h ∙ none))
   erases b none st s r (Erased.done h q i) =
@@ -240,3 +244,37 @@ module _ {ok ok′ : Type 0} (m n : Meaning) (batch : ℕ) (held : List ℕ) (sm
   erases b none st s r (Erased.failed xs f h a q l w e) =
       subst (λ (x : Answer). Sound ok′ n batch (left x st b) (kept (left x st b) held) × Erased (buffered m st (take batch held)) b x (buffered n (left x st b) (take batch (kept (left x st b) held)))) (sym q)
       (erase-fails st s b none xs f a l w e (replicate 512 255) refl)
+
+module _ {F : Type 0} (ok : F → Type 0) (meaning : F → Meaning) (w : WriteBuffer F) (s : sound ok meaning w) (x : F) where
+  pub arms : (r : Answer) → ok x × Sane (meaning x) × Armed (meaning (w .below)) r (meaning x)
+      → Sound (ok x) (meaning x) (w .batch) (w .state) (w .held) × Sane (buffered (meaning x) (w .state) (take (w .batch) (w .held))) × Armed (means meaning w) r (buffered (meaning x) (w .state) (take (w .batch) (w .held)))
+  arms r p =
+      let q = arms-sound (meaning (w .below)) (meaning x) (w .batch) (w .held) (w .small) (w .full) (p .0) (p .1) (w .state) s r (p .2) in
+      let long = full-long (meaning x .batch) (w .batch) (w .held) (q .0 .same) (w .small) (w .full) in
+      (q .0, sane-buffered (meaning x) (q .0 .bears) (take (w .batch) (w .held)) long (w .state) (q .0 .holding), q .1)
+
+  module _ (v : WriteBuffer F) (below : v .below ≡ x) (batch : v .batch ≡ w .batch) where
+    pub restarts-of : v .state ≡ Empty → v .held ≡ replicate 512 255 → ok x × Sane (meaning x) × Restarted (meaning (w .below)) (meaning x)
+        → sound ok meaning v × Sane (means meaning v) × Restarted (means meaning w) (means meaning v)
+    restarts-of e h p =
+        let q = restarts (meaning (w .below)) (meaning x) (w .batch) (w .held) (w .small) (w .full) (p .0) (p .1) (w .state) s (p .2) (v .held) h in
+        let k : sound ok meaning v = rw (below, batch, e) (q .0) in
+        (k, sane-of ok meaning v k, rw (below, batch, e) (q .1))
+
+    pub erases-of : (b k : ℕ) → Ok k ≡ mark-answer (meaning (w .below)) b → (r : Answer) (st : State) → st ≡ left r (w .state) b → v .state ≡ st → v .held ≡ kept st (w .held)
+        → ok x × Sane (meaning x) × Erased (meaning (w .below)) b r (meaning x)
+        → sound ok meaning v × Sane (means meaning v) × Erased (means meaning w) b r (means meaning v)
+    erases-of b k had r st is e h p =
+        let q = erases (meaning (w .below)) (meaning x) (w .batch) (w .held) (w .small) (w .full) (p .0) (p .1) b (mark-place (meaning (w .below)) b k had) (w .state) s r (p .2) in
+        let z : sound ok meaning v = rw (below, batch, e, h, is) (q .0) in
+        (z, sane-of ok meaning v z, rw (below, batch, e, h, is) (q .1))
+
+-- an erase that is refused from the start
+pub erase-refused : {F : Type 0} (ok : F → Type 0) (meaning : F → Meaning) (w : WriteBuffer F) (s : sound ok meaning w) (b : ℕ) (e : Refusal) → Err e ≡ mark-answer (meaning (w .below)) b
+    → sound ok meaning w × Sane (means meaning w) × Erased (means meaning w) b (Err e) (means meaning w)
+erase-refused ok meaning w s b e h =
+    let m = meaning (w .below) in (
+      s,
+      sane-of ok meaning w s,
+      Erased.refused e (same-place m (w .state) (take (w .batch) (w .held)) b 0 0 ∙ refused-as (place-refusal m b 0 0) (m .mark b) e h) refl refl,
+    )

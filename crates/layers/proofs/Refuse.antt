@@ -20,6 +20,7 @@ use Rattle.flash.proofs.Refusals.{place-inside, not-some, program-by-place, ref
 use Rattle.layers.specs.Batch.{turn, caused}
 use Rattle.layers.specs.Buffered.{marks, buffered, Holding, Bearing}
 use Rattle.layers.specs.declared.buffer.State.{State}
+use Rattle.layers.specs.declared.buffer.Turn.{Turn}
 use Rattle.layers.proofs.Turns.{other-held-is}
 
 -- a block that cannot be had refuses every place in it
@@ -72,8 +73,10 @@ module _ (m : Meaning) (bear : Bearing m) (st : State) (held : List ℕ) (long :
   unfolding buffered
   marks-at = refl
 
-  pub refuse-cause : (k : ℕ) → Ok k ≡ mark-answer (buffered m st held) b → (size g : ℕ) → size ≡ m .size → (r : Option Refusal) → r ≡ caused size k o n (turn st b o g) → r ≡ program-refusal (buffered m st held) b o n
-  refuse-cause k h size g e r is =
+  pub refuse-cause : (k : ℕ) → Ok k ≡ mark-answer (buffered m st held) b → (size g : ℕ) → size ≡ m .size → (t : Turn) → t ≡ turn st b o g → (r : Option Refusal) → r ≡ caused size k o n t → r ≡ program-refusal (buffered m st held) b o n
+  refuse-cause k h size g e t f r is =
       let i = place-inside m b 0 0 (sym (same-place m st held b 0 0) ∙ mark-place (buffered m st held) b k h) in
       let q : k ≡ marks m st held b = mark-is (buffered m st held) b k h ∙ marks-at in
-      is ∙ (ap (λ (x : ℕ). caused x k o n (turn st b o g)) e ∙ (ap (λ (x : ℕ). caused (m .size) x o n (turn st b o g)) q ∙ sym (past g (i .on) (i .there))))
+      is
+      ∙ (ap (λ (x : Turn). caused size k o n x) f
+      ∙ (ap (λ (x : ℕ). caused x k o n (turn st b o g)) e ∙ (ap (λ (x : ℕ). caused (m .size) x o n (turn st b o g)) q ∙ sym (past g (i .on) (i .there)))))

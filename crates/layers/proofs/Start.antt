@@ -21,9 +21,9 @@ both : (t u : Bool) → cond t u false ≡ true → (t ≡ true) × (u ≡ true)
 both true u h = (refl, h)
 both false u h = absurd (false≢true h)
 
-pub suits-is : (p g : ℕ) → suits p g ≡ true → (p ≡ g) × (g % 4 ≡ 0) × (g ≤ 512) × (0 < g)
+pub suits-is : (p g : ℕ) → true ≡ suits p g → (p ≡ g) × (g % 4 ≡ 0) × (g ≤ 512) × (0 < g)
 suits-is p g h =
-    let a = both (eqb p g) _ h in
+    let a = both (eqb p g) _ (sym h) in
     let b = both (eqb (g % 4) 0) _ (a .1) in
     let d = both (leb g 512) _ (b .1) in
     (eqb-true p g (a .0), eqb-true (g % 4) 0 (b .0), leb-true g 512 (d .0), ltb-true 0 g (d .1))
@@ -35,10 +35,13 @@ used-blank n =
 
 -- what is known of a flash below by its shape
 module _ (m : Meaning) (shape : Shape) (shaped : Shaped shape m) where
-  pub suits-same : suits (shape .page) (shape .batch) ≡ suits (m .page) (m .batch)
+  suits-same : suits (shape .page) (shape .batch) ≡ suits (m .page) (m .batch)
   suits-same = rw (shaped .2, shaped .3)
 
-  pub starts : (ok : Type 0) {held : List ℕ} → ok → Sane m → suits (shape .page) (shape .batch) ≡ true → held ≡ replicate 512 255 → Sound ok m (shape .batch) Empty held
+  pub suits-if : (t : Bool) → t ≡ suits (shape .page) (shape .batch) → suits (m .page) (m .batch) ≡ t
+  suits-if t h = sym (h ∙ suits-same)
+
+  pub starts : (ok : Type 0) {held : List ℕ} → ok → Sane m → true ≡ suits (shape .page) (shape .batch) → held ≡ replicate 512 255 → Sound ok m (shape .batch) Empty held
   starts ok k s h e =
       let q = suits-is (shape .page) (shape .batch) h in
       record {

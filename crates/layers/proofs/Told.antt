@@ -8,6 +8,7 @@ use native.Mathlib.Omega.{arith}
 use lib.ListN.{length, take, replicate}
 use Rattle.std.proofs.shelf.Tests.{true≢false}
 use Rattle.std.specs.declared.option.Option.the-variants.{None}
+use Rattle.std.specs.declared.result.Result.the-variants.{Ok}
 use Rattle.flash.specs.Cells.{blank, over}
 use Rattle.flash.specs.Meaning.{Meaning, Sane, with-at}
 use Rattle.flash.specs.Refused.{program-refusal}
@@ -15,7 +16,7 @@ use Rattle.flash.specs.Rules.{Answer, Passed, Goes, Programmed}
 use Rattle.flash.proofs.Over.{by-place, here}
 use Rattle.flash.proofs.Refusals.{accepted}
 use Rattle.layers.specs.Batch.{used, turn, is-other, begun}
-use Rattle.layers.specs.Buffered.{raised, marks, buffered, Fills, Holding, Sound, Near}
+use Rattle.layers.specs.Buffered.{raised, marks, buffered, Fills, Holding, Sound, Near, near}
 use Rattle.layers.specs.declared.buffer.State.{State}
 use Rattle.layers.specs.declared.buffer.State.the-variants.{Empty, Filling}
 use Rattle.layers.specs.declared.buffer.Turn.the-variants.{Other, Here}
@@ -34,8 +35,8 @@ module _ {ok : Type 0} (m : Meaning) (batch : ℕ) (st : State) (held : List ℕ
     near-at : Near st batch b o → Near st (m .batch) b o
     near-at h = subst (λ (g : ℕ). Near st g b o) (sym (s .same)) h
 
-    pub tells-nothing : Near st batch b o → length run ≡ 0 → Passed (buffered m st (take batch held)) b o run (buffered m st (take batch held))
-    tells-nothing near z = nothing-goes m (s .bears) st (take batch held) long (s .holding) b o (length run) run none (near-at near) z
+    pub tells-nothing : Near st batch b o → length run ≡ 0 → Goes (buffered m st (take batch held)) b o run (Ok tt) (buffered m st (take batch held))
+    tells-nothing near z = Goes.done refl (nothing-goes m (s .bears) st (take batch held) long (s .holding) b o (length run) run none (near-at near) z)
 
     module _ (near : Near st batch b o) (bytes : 0 < length run) (short : o % batch + length run < batch) (new : List ℕ) (is : take batch new ≡ over (take batch held) (o % batch) run) where
       short′ : o % m .batch + length run < m .batch
@@ -57,12 +58,15 @@ module _ {ok : Type 0} (m : Meaning) (batch : ℕ) (st : State) (held : List ℕ
           (record { below = s .below; bears = s .bears; same = s .same; holding = p .1 }, p .0)
 
       -- a run that stays in its batch
-      pub tells-kept : (n : ℕ) → n ≡ used (take batch new) → (st′ : State) → st′ ≡ begun n b (o - o % batch) → Sound ok m batch st′ new × Passed (buffered m st (take batch held)) b o run (buffered m st′ (take batch new))
+      pub tells-kept : (n : ℕ) → n ≡ used (take batch new) → (st′ : State) → st′ ≡ begun n b (o - o % batch) → Sound ok m batch st′ new × Goes (buffered m st (take batch held)) b o run (Ok tt) (buffered m st′ (take batch new))
       tells-kept n is-n st′ e =
-          subst (λ (x : State). Sound ok m batch x new × Passed (buffered m st (take batch held)) b o run (buffered m x (take batch new))) (sym e)
-          (by-place (λ v. Sound ok m batch (cond v Empty (Filling b (o - o % batch))) new × Passed (buffered m st (take batch held)) b o run (buffered m (cond v Empty (Filling b (o - o % batch))) (take batch new))) n 0
+          let P : State → Type 0 = λ x. Sound ok m batch x new × Passed (buffered m st (take batch held)) b o run (buffered m x (take batch new)) in
+          let p : P st′ =
+          subst P (sym e)
+          (by-place (λ v. P (cond v Empty (Filling b (o - o % batch)))) n 0
           (λ z. tells-none (sym is-n ∙ z))
-          (λ z. tells-some (omega (arith, z, is-n)) (o - o % batch) refl))
+          (λ z. tells-some (omega (arith, z, is-n)) (o - o % batch) refl)) in
+          (p .0, Goes.done refl (p .1))
 
     module _ {ok′ : Type 0} (r : Answer) (n : Meaning) (k : ok′) (sane : Sane n) where
       pub tells-complete : Near st batch b o → 0 < batch → o % batch + length run ≡ batch → (new : List ℕ) → take batch new ≡ over (take batch held) (o % batch) run → (begin : ℕ) → begin ≡ o - o % batch

@@ -1,15 +1,17 @@
 -- The small decisions of a write buffer, on numbers. Assumes nothing.
 --
--- used      the end of the last byte that is not 0xFF
--- up        the first place from x on at which a batch of g begins
--- suits     whether a write buffer can lie on a flash with these pages and batches
--- turn      what a program at the place o of the block b asks of a buffer in a state
--- caused    why a program of n bytes at o is refused whose block is there and has power: outside, not whole words, below
---           the mark, another block has bytes held
--- begun     the state of a buffer whose batch at s of the block b is used so far
--- begins    where the held batch of the block b begins, if it has one
--- left      the state that an erase of a block with an answer leaves: another block's batch stays held, if the power lasts
--- kept      the array of held bytes in a state: an empty buffer has nothing left of them
+-- bump, used   the end of the last byte that is not 0xFF: of one byte before others, and of a row
+-- up           the first place from x on at which a batch of g begins
+-- suits        whether a write buffer can lie on a flash with these pages and batches
+-- turn         what a program at the place o of the block b asks of a buffer in a state: each program is decided by these two
+-- is-other     whether it asks in vain, as another block has bytes held
+-- caused       why a program of n bytes at o is refused whose block is there and has power: outside, not whole words, below
+--              the mark, another block has bytes held
+-- begun        the state of a buffer whose batch at s of the block b is used so far: nothing but 0xFF counts as empty
+-- begins       where the held batch of the block b begins, if it has one
+-- without      the state without what is held of the block b
+-- left         the state that an erase of a block with an answer leaves: another block's batch stays held, if the power lasts
+-- kept         the array of held bytes in a state: an empty buffer has nothing left of them
 use mathlib.Core.Bool.{Bool, true, false, cond, not}
 use mathlib.Core.List.{List, [], _∷_}
 use Prim.Native.Nat.{ℕ, zero, suc, _+_, _-_, _*_, _/_, _%_}

@@ -1,20 +1,27 @@
 -- What a write buffer over a flash means, from what the flash below means and its own state. Assumes nothing.
 --
--- buffered   the flash below, with the held bytes laid over it: what is held is shown and not settled. The marks are those
---            below, rounded up to a batch; that of the block with the held batch is where its bytes end
--- Fills      a batch may be held at a place: it begins where a batch begins, at or above the mark below, has a byte that is
---            not 0xFF, and its last word is 0xFF
--- Holding    what a state says of the held bytes
--- Bearing    a flash that a write buffer can lie on
--- Sound      how a write buffer and the flash below fit
--- means, sound   the meaning and the soundness of a write buffer, from those of the flash below
--- Near       no batch is held, or that of the place o in the block b
+-- buffered         the flash below, with the held bytes laid over it; it is made of
+-- shows            what each block shows: what is held is shown and not settled
+-- raised, marks    the marks: those below, rounded up to a batch; that of the block with the held batch is where its bytes end
+-- Fills            a batch may be held at a place: it begins where a batch begins, at or above the mark below, has a byte
+--                  that is not 0xFF, and its last word is 0xFF
+-- Holding          what a state says of the held bytes
+-- Bearing          a flash that a write buffer can lie on
+-- Sound            how a write buffer and the flash below fit
+-- means, sound     the meaning and the soundness of a write buffer, from those of the flash below
+-- accepts          a program of n bytes at a place is not refused
+-- laid             a run that was not refused went, with this answer, and left a sound buffer
+-- near             no batch is held, or that of a place
 use mathlib.Core.Path.{_≡_}
 use mathlib.Core.List.{List}
 use Prim.Native.Nat.{ℕ, _+_, _*_, _/_, _%_, _<_, _≤_}
 use lib.ListN.{take}
+use Rattle.std.specs.declared.option.Option.the-variants.{None}
+use Rattle.flash.specs.declared.place.Place.{Place}
 use Rattle.flash.specs.Cells.{Cell, cells, over}
 use Rattle.flash.specs.Meaning.{Meaning, Sane, with-at}
+use Rattle.flash.specs.Refused.{program-refusal}
+use Rattle.flash.specs.Rules.{Answer, Goes}
 use Rattle.layers.specs.declared.buffer.State.{State}
 use Rattle.layers.specs.declared.buffer.State.the-variants.{Empty, Filling}
 use Rattle.layers.specs.declared.buffer.WriteBuffer.{WriteBuffer}
@@ -73,6 +80,15 @@ means meaning w = buffered (meaning (w .below)) (w .state) (take (w .batch) (w .
 abbrev pub sound : {F : Type 0} → (F → Type 0) → (F → Meaning) → WriteBuffer F → Type 0
 sound ok meaning w = Sound (ok (w .below)) (meaning (w .below)) (w .batch) (w .state) (w .held)
 
+abbrev pub accepts : {F : Type 0} → (F → Meaning) → WriteBuffer F → Place → ℕ → Type 0
+accepts meaning w at n = program-refusal (means meaning w) (at .block) (at .offset) n ≡ None
+
+abbrev pub laid : {F : Type 0} → (F → Type 0) → (F → Meaning) → WriteBuffer F → Place → List ℕ → Answer → WriteBuffer F → Type 0
+laid ok meaning w at run r v = sound ok meaning v × Goes (means meaning w) (at .block) (at .offset) run r (means meaning v)
+
 abbrev pub Near : State → ℕ → ℕ → ℕ → Type 0
 Near Empty g b o = Unit {0}
 Near (Filling c s) g b o = (c ≡ b) × (s ≡ o / g * g)
+
+abbrev pub near : {F : Type 0} → WriteBuffer F → Place → Type 0
+near w at = Near (w .state) (w .batch) (at .block) (at .offset)

@@ -37,7 +37,8 @@ pub(crate) fn raise(x: usize, batch: usize) -> usize
     if x >= 0x1_0000_0000 {
         return x;
     }
-    (x + (batch - 1)) / batch * batch
+    let last = x + (batch - 1);
+    last / batch * batch
 }
 
 // Bytes laid over a part of a row.

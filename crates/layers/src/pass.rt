@@ -2,11 +2,10 @@
 ghost use mathlib.Core.Path.{_≡_};
 ghost use Prim.Native.Nat.{_+_, _-_, _%_, _^_, _<_, _≤_};
 ghost use lib.ListN.{length, take, replicate};
-ghost use Rattle.std.specs.declared.option.Option.the-variants.{None};
+ghost use Rattle.std.specs.declared.result.Result.the-variants.{Ok};
 ghost use Rattle.flash.specs.Meaning.{Sane};
-ghost use Rattle.flash.specs.Refused.{program-refusal};
-ghost use Rattle.flash.specs.Rules.{Goes, Passed, Programmed};
-ghost use Rattle.layers.specs.Buffered.{means, sound, Near};
+ghost use Rattle.flash.specs.Rules.{Programmed};
+ghost use Rattle.layers.specs.Buffered.{sound, accepts, laid, near};
 use crate::batch::filled;
 use crate::batch::fresh;
 use crate::batch::put;
@@ -38,7 +37,7 @@ impl<F: Flash> WriteBuffer<F> {
     fn keep(&mut self, at: Place, bytes: &[u8])
         requires { ⌜ at .offset % now self .batch + length (now bytes) < now self .batch ⌝ }
         ensures batch { λ _. ⌜ now (self .exit) .batch ≡ now (self .entry) .batch ⌝ }
-        ensures passed { λ _. ⌜ (sound (F·Flash .ok) (F·Flash .meaning) (now (self .entry)) → program-refusal (means (F·Flash .meaning) (now (self .entry))) (at .block) (at .offset) (length (now (bytes .entry))) ≡ None → Near (now (self .entry) .state) (now (self .entry) .batch) (at .block) (at .offset) → sound (F·Flash .ok) (F·Flash .meaning) (now (self .exit)) × Passed (means (F·Flash .meaning) (now (self .entry))) (at .block) (at .offset) (now (bytes .entry)) (means (F·Flash .meaning) (now (self .exit)))) ⌝ }
+        ensures goes { λ _. ⌜ (sound (F·Flash .ok) (F·Flash .meaning) (now (self .entry)) → accepts (F·Flash .meaning) (now (self .entry)) at (length (now (bytes .entry))) → near (now (self .entry)) at → laid (F·Flash .ok) (F·Flash .meaning) (now (self .entry)) at (now (bytes .entry)) (Ok tt) (now (self .exit))) ⌝ }
     {
         if bytes.len() == 0 {
             return;
@@ -52,7 +51,7 @@ impl<F: Flash> WriteBuffer<F> {
         requires { ⌜ at .offset % now self .batch + length (now bytes) ≡ now self .batch ⌝ }
         ensures batch { λ _. ⌜ now (self .exit) .batch ≡ now (self .entry) .batch ⌝ }
         ensures state { λ _. ⌜ now (self .exit) .state ≡ State.Empty ⌝ }
-        ensures goes { λ r. ⌜ (sound (F·Flash .ok) (F·Flash .meaning) (now (self .entry)) → program-refusal (means (F·Flash .meaning) (now (self .entry))) (at .block) (at .offset) (length (now (bytes .entry))) ≡ None → Near (now (self .entry) .state) (now (self .entry) .batch) (at .block) (at .offset) → sound (F·Flash .ok) (F·Flash .meaning) (now (self .exit)) × Goes (means (F·Flash .meaning) (now (self .entry))) (at .block) (at .offset) (now (bytes .entry)) r (means (F·Flash .meaning) (now (self .exit)))) ⌝ }
+        ensures goes { λ r. ⌜ (sound (F·Flash .ok) (F·Flash .meaning) (now (self .entry)) → accepts (F·Flash .meaning) (now (self .entry)) at (length (now (bytes .entry))) → near (now (self .entry)) at → laid (F·Flash .ok) (F·Flash .meaning) (now (self .entry)) at (now (bytes .entry)) r (now (self .exit))) ⌝ }
     {
         let into = at.offset % self.batch;
         put(&mut self.held[0..self.batch], into, bytes);
@@ -67,7 +66,7 @@ impl<F: Flash> WriteBuffer<F> {
         requires { ⌜ at .offset % now self .batch ≡ 0 ⌝ ∗ ⌜ length (now bytes) % now self .batch ≡ 0 ⌝ }
         ensures batch { λ _. ⌜ now (self .exit) .batch ≡ now (self .entry) .batch ⌝ }
         ensures state { λ _. ⌜ now (self .exit) .state ≡ now (self .entry) .state ⌝ }
-        ensures goes { λ r. ⌜ (sound (F·Flash .ok) (F·Flash .meaning) (now (self .entry)) → program-refusal (means (F·Flash .meaning) (now (self .entry))) (at .block) (at .offset) (length (now (bytes .entry))) ≡ None → now (self .entry) .state ≡ State.Empty → sound (F·Flash .ok) (F·Flash .meaning) (now (self .exit)) × Goes (means (F·Flash .meaning) (now (self .entry))) (at .block) (at .offset) (now (bytes .entry)) r (means (F·Flash .meaning) (now (self .exit)))) ⌝ }
+        ensures goes { λ r. ⌜ (sound (F·Flash .ok) (F·Flash .meaning) (now (self .entry)) → accepts (F·Flash .meaning) (now (self .entry)) at (length (now (bytes .entry))) → now (self .entry) .state ≡ State.Empty → laid (F·Flash .ok) (F·Flash .meaning) (now (self .entry)) at (now (bytes .entry)) r (now (self .exit))) ⌝ }
     {
         if bytes.len() == 0 {
             return Ok(());
@@ -78,7 +77,7 @@ impl<F: Flash> WriteBuffer<F> {
     // Lays a run at the start of a batch: its whole batches are passed down, and what is left is held.
     fn rest(&mut self, at: Place, bytes: &[u8]) -> Result<(), Refusal>
         requires { ⌜ at .offset % now self .batch ≡ 0 ⌝ ∗ ⌜ at .offset + length (now bytes) < 2 ^ 64 ⌝ }
-        ensures { λ r. ⌜ (sound (F·Flash .ok) (F·Flash .meaning) (now (self .entry)) → program-refusal (means (F·Flash .meaning) (now (self .entry))) (at .block) (at .offset) (length (now (bytes .entry))) ≡ None → now (self .entry) .state ≡ State.Empty → sound (F·Flash .ok) (F·Flash .meaning) (now (self .exit)) × Goes (means (F·Flash .meaning) (now (self .entry))) (at .block) (at .offset) (now (bytes .entry)) r (means (F·Flash .meaning) (now (self .exit)))) ⌝ }
+        ensures { λ r. ⌜ (sound (F·Flash .ok) (F·Flash .meaning) (now (self .entry)) → accepts (F·Flash .meaning) (now (self .entry)) at (length (now (bytes .entry))) → now (self .entry) .state ≡ State.Empty → laid (F·Flash .ok) (F·Flash .meaning) (now (self .entry)) at (now (bytes .entry)) r (now (self .exit))) ⌝ }
     {
         let n = bytes.len();
         let whole = n - n % self.batch;
@@ -94,7 +93,7 @@ impl<F: Flash> WriteBuffer<F> {
     // Lays a run in the held batch, or in one of which nothing is held.
     fn follow(&mut self, at: Place, bytes: &[u8]) -> Result<(), Refusal>
         requires { ⌜ at .offset + length (now bytes) < 2 ^ 64 ⌝ }
-        ensures { λ r. ⌜ (sound (F·Flash .ok) (F·Flash .meaning) (now (self .entry)) → program-refusal (means (F·Flash .meaning) (now (self .entry))) (at .block) (at .offset) (length (now (bytes .entry))) ≡ None → Near (now (self .entry) .state) (now (self .entry) .batch) (at .block) (at .offset) → sound (F·Flash .ok) (F·Flash .meaning) (now (self .exit)) × Goes (means (F·Flash .meaning) (now (self .entry))) (at .block) (at .offset) (now (bytes .entry)) r (means (F·Flash .meaning) (now (self .exit)))) ⌝ }
+        ensures { λ r. ⌜ (sound (F·Flash .ok) (F·Flash .meaning) (now (self .entry)) → accepts (F·Flash .meaning) (now (self .entry)) at (length (now (bytes .entry))) → near (now (self .entry)) at → laid (F·Flash .ok) (F·Flash .meaning) (now (self .entry)) at (now (bytes .entry)) r (now (self .exit))) ⌝ }
     {
         let n = bytes.len();
         let room = self.batch - at.offset % self.batch;
@@ -113,7 +112,7 @@ impl<F: Flash> WriteBuffer<F> {
     // Lays a run that is not refused, as the state and the place ask.
     pub(crate) fn lay(&mut self, at: Place, bytes: &[u8]) -> Result<(), Refusal>
         requires { ⌜ at .offset + length (now bytes) < 2 ^ 64 ⌝ }
-        ensures { λ r. ⌜ (sound (F·Flash .ok) (F·Flash .meaning) (now (self .entry)) → program-refusal (means (F·Flash .meaning) (now (self .entry))) (at .block) (at .offset) (length (now (bytes .entry))) ≡ None → sound (F·Flash .ok) (F·Flash .meaning) (now (self .exit)) × Goes (means (F·Flash .meaning) (now (self .entry))) (at .block) (at .offset) (now (bytes .entry)) r (means (F·Flash .meaning) (now (self .exit)))) ⌝ }
+        ensures { λ r. ⌜ (sound (F·Flash .ok) (F·Flash .meaning) (now (self .entry)) → accepts (F·Flash .meaning) (now (self .entry)) at (length (now (bytes .entry))) → laid (F·Flash .ok) (F·Flash .meaning) (now (self .entry)) at (now (bytes .entry)) r (now (self .exit))) ⌝ }
     {
         match decide(self.state, at, self.batch) {
             Turn::Other => Err(Refusal::OtherHeld),

@@ -1,5 +1,4 @@
 use mathlib.Core.Path.{refl}
-use Rattle.flash.specs.Rules.{Goes}
 use Rattle.layers.proofs.Told.{tells-nothing, tells-down}
 use Rattle.layers.proofs.buffer.WriteBuffer.direct.Needs as need
 
@@ -7,7 +6,7 @@ pub returns-then-bytes-eq0 : need.returns-then-bytes-eq0
 returns-then-bytes-eq0 g c = record {
   batch = refl;
   state = refl;
-  goes = λ s n e. (s, Goes.done refl (tells-nothing _ _ _ _ _ _ (c .args .bytes .now) s (c .args .self .now .small) (c .args .self .now .full) n (rw e tt) (c .if-bytes-eq0 .taken)));
+  goes = λ s n e. (s, tells-nothing _ _ _ _ _ _ (c .args .bytes .now) s (c .args .self .now .small) (c .args .self .now .full) n (rw e tt) (c .if-bytes-eq0 .taken));
 }
 
 pub returns : need.returns

@@ -14,4 +14,4 @@ pub returns-in-Break-mark : need.returns-in-Break-mark
 returns-in-Break-mark g c = λ s.
     let x = err-from-errBy (c .from-residual .result) (c .from-residual .ensures .1) in
     let w = c .args .self .now in
-    rw (x .1, x .2) (mark-refused (g .F·Flash .meaning (w .below)) (w .state) (take (w .batch) (w .held)) (c .args .block) _ _ (c .in-Break-mark .ensures tt (s .below)))
+    rw (x .1, x .2) (mark-refused (g .F·Flash .meaning (w .below)) (w .state) (take (w .batch) (w .held)) (c .args .block) (g .F·Flash .meaning (w .below) .mark (c .args .block)) _ (c .in-Break-mark .ensures tt (s .below)))

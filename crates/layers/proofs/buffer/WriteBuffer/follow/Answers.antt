@@ -1,48 +1,35 @@
-use mathlib.Core.Path.{refl}
-use Prim.Native.Nat.{_-_, _%_, _≤_}
+use Prim.Native.Nat.{_-_, _%_}
 use native.Mathlib.Omega.{arith}
-use lib.ListN.{length}
 use Rattle.std.proofs.shelf.Results.{err-from-errBy}
-use Rattle.flash.specs.Rules.{Goes}
+use Rattle.flash.specs.Refused.{first}
 use Rattle.layers.specs.Batch.{left}
-use Rattle.layers.proofs.Split.{behind-long, split-first, split-rest, split-then, split-failed, sane-told, room-words, room-mod}
+use Rattle.layers.specs.Buffered.{near}
+use Rattle.layers.proofs.Buffers.{in-two, in-first, room-of}
+use Rattle.layers.proofs.Split.{back-long, room-mod}
 use Rattle.layers.proofs.buffer.WriteBuffer.follow.Needs as need
 
 pub rest-requires : need.rest-requires
 rest-requires g c κs =
     let w = c .args .self .now in
-    let k = w .batch - c .args .at .offset % w .batch in
-    let n = length (c .args .bytes .now) in
-    let in-k : k ≤ n = c .if-n-room .left in (
+    let k = w .batch - c .args .at .offset % w .batch in (
       rw (c .in-Continue-complete .ensures tt .batch) (room-mod (c .args .at .offset) (w .batch) (w .some)),
-      rw (behind-long k (c .args .bytes .now) in-k) (omega (arith, c .pre, in-k)),
+      rw (back-long k (c .args .bytes .now) (c .if-n-room .left)) (omega (arith, c .pre, c .if-n-room .left)),
     )
 
 pub returns-then-n-room : need.returns-then-n-room
-returns-then-n-room g c = λ s none near.
-    let p = c .keep .ensures .passed s none near in
-    (p .0, Goes.done refl (p .1))
+returns-then-n-room g c = c .keep .ensures .goes
 
 pub returns : need.returns
 returns g c = λ s none near.
     let w = c .args .self .now in
-    let n = length (c .args .bytes .now) in
-    let k = w .batch - c .args .at .offset % w .batch in
-    let in-k : k ≤ n = c .if-n-room .left in
-    let sane = sane-told (g .F·Flash .meaning (w .below)) (w .batch) (w .state) (w .held) s (w .small) (w .full) in
-    let pages = room-words (g .F·Flash .meaning (w .below)) (w .batch) (w .state) (w .held) s (w .small) (w .full) (c .args .at .block) (c .args .at .offset) n none (w .some) in
-    let d = c .in-Continue-complete .ensures tt .goes s (split-first k (c .args .bytes .now) in-k _ (c .args .at .block) (c .args .at .offset) sane none pages) near in
-    let p = c .rest .ensures (d .0) (split-rest k (c .args .bytes .now) in-k _ (c .args .at .block) (c .args .at .offset) sane none pages _ (d .1)) (c .in-Continue-complete .ensures tt .state) in
-    (p .0, split-then k (c .args .bytes .now) in-k _ (c .args .at .block) (c .args .at .offset) sane none pages _ _ _ (d .1) (p .1))
+    in-two (g .F·Flash .ok) (g .F·Flash .meaning) w (c .args .at) (c .args .bytes .now) s none (w .batch - c .args .at .offset % w .batch) (c .if-n-room .left) (room-of (g .F·Flash .ok) (g .F·Flash .meaning) w (c .args .at) _ s none) (c .complete .last .self) (c .rest .last .self) (c .rest .result)
+    (λ first. c .in-Continue-complete .ensures tt .goes s first near)
+    (λ t second. c .rest .ensures t second (c .in-Continue-complete .ensures tt .state))
 
 pub returns-in-Break-complete : need.returns-in-Break-complete
 returns-in-Break-complete g c = λ s none near.
     let x = err-from-errBy (c .from-residual .result) (c .from-residual .ensures .1) in
     let w = c .args .self .now in
-    let n = length (c .args .bytes .now) in
-    let k = w .batch - c .args .at .offset % w .batch in
-    let in-k : k ≤ n = c .if-n-room .left in
-    let sane = sane-told (g .F·Flash .meaning (w .below)) (w .batch) (w .state) (w .held) s (w .small) (w .full) in
-    let pages = room-words (g .F·Flash .meaning (w .below)) (w .batch) (w .state) (w .held) s (w .small) (w .full) (c .args .at .block) (c .args .at .offset) n none (w .some) in
-    let d = c .in-Break-complete .ensures tt .goes s (split-first k (c .args .bytes .now) in-k _ (c .args .at .block) (c .args .at .offset) sane none pages) near in
-    rw (x .1, x .2) (d .0, split-failed k (c .args .bytes .now) in-k _ (c .args .at .block) (c .args .at .offset) sane none pages _ _ (d .1))
+    rw (x .1, x .2)
+    (in-first (g .F·Flash .ok) (g .F·Flash .meaning) w (c .args .at) (c .args .bytes .now) s none (w .batch - c .args .at .offset % w .batch) (c .if-n-room .left) (room-of (g .F·Flash .ok) (g .F·Flash .meaning) w (c .args .at) _ s none) (c .complete .last .self) _
+    (λ first. c .in-Break-complete .ensures tt .goes s first near))

@@ -1,9 +1,9 @@
-use Rattle.layers.proofs.Split.{sane-told}
+use Rattle.layers.proofs.Buffers.{sane-of}
 use Rattle.layers.proofs.Start.{words-shaped}
 use Rattle.layers.proofs.calls.WriteBufferFlash.shape.Needs as need
 
 pub returns : need.returns
 returns g c = record {
   value = λ s. words-shaped (g .F·Flash .meaning (c .args .self .now .below)) _ _ (c .shape .result) (c .words .result) (c .shape .ensures .value (s .below)) (c .words .ensures);
-  sane = λ s. sane-told (g .F·Flash .meaning (c .args .self .now .below)) _ _ _ s (c .args .self .now .small) (c .args .self .now .full);
+  sane = sane-of (g .F·Flash .ok) (g .F·Flash .meaning) (c .args .self .now);
 }
