@@ -1,4 +1,9 @@
+pub mod Accepting
+pub mod Batches
+pub mod Chain
+pub mod Mixed
 pub mod Over
 pub mod Refusals
 pub mod Runs
 pub mod Settled
+pub mod Splits
