@@ -1,14 +1,11 @@
 -- What the code of a NOR chip does to its memory is what is meant.
 use mathlib.Core.Path.{_≡_, refl, sym, _∙_, ap}
-use mathlib.Core.Bool.{Bool, true, false, cond}
 use mathlib.Core.List.{List, _++_}
 use Prim.Native.Nat.{ℕ, _+_, _-_, _*_, _/_, _<_, _≤_}
 use native.Mathlib.Omega.{arith}
 use lib.ListN.{length, take, drop, replicate, length-take, length-drop, length-append, length-map, length-replicate}
-use lib.Dec.{ltb}
 use borrow.Rule.Slice.PartMut.{putMid}
-use Rattle.std.proofs.shelf.Lists.{drop-drop, take-take, drop-take}
-use Rattle.std.proofs.shelf.Tests.{ltb-true}
+use Rattle.std.proofs.shelf.Lists.{take-take, drop-take}
 use Rattle.std.specs.declared.option.Option.the-variants.{Some, None}
 use Rattle.std.specs.declared.result.Result.the-variants.{Ok, Err}
 use Rattle.flash.specs.declared.refusal.Refusal.{Refusal}
@@ -17,27 +14,12 @@ use Rattle.flash.specs.Cells.{over}
 use Rattle.flash.specs.Refused.{program-refusal, erase-refusal}
 use Rattle.devices.specs.declared.supply.Cut.{Cut}
 use Rattle.devices.specs.declared.supply.Supply.{Supply}
-use Rattle.devices.specs.declared.supply.Supply.the-variants.{Steady, Armed, Off}
+use Rattle.devices.specs.declared.supply.Supply.the-variants.{Off}
 use Rattle.devices.specs.Steps.{spent}
 use Rattle.devices.specs.Memory.{ored, outcome}
 use Rattle.devices.specs.Nor.{SIZE, nor, cut-run, nor-program, nor-erase}
-
-not-err : {X : Type 0} (x : X) (c : Cut) → Err c ≡ Ok x → ⊥
-not-err x c h = let z : _≡_ {A = ℕ} 0 1 = cc in omega arith
-
--- the power fails before all the steps are made
-pub cut-before : (s : Supply) (n : ℕ) (c : Cut) → Err c ≡ spent s n → c .after < n
-cut-before Steady n c h = absurd (not-err Steady c h)
-cut-before (Armed left j) n c h = go (ltb left n) refl h
-  where
-    go : (t : Bool) → ltb left n ≡ t → Err c ≡ cond t (Err (record { after = left; fault = j })) (Ok (Armed (left - n) j)) → c .after < n
-    go true t h = let e : c .after ≡ left = cc in let l = ltb-true left n t in omega arith
-    go false t h = absurd (not-err (Armed (left - n) j) c h)
-cut-before Off n c h = absurd (not-err Off c h)
-
--- a write to the part of k bytes at a
-pub put-over : (a k : ℕ) (xs ys : List ℕ) → length ys ≡ k → putMid a k xs ys ≡ over xs a ys
-put-over a k xs ys e = cc (drop-drop k a xs)
+use Rattle.devices.proofs.Rows.{put-over}
+use Rattle.devices.proofs.Supplies.{cut-before}
 
 -- ─── program ───
 

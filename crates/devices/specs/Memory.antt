@@ -1,12 +1,13 @@
 -- A flash's blocks in one piece of memory, and what a power failure makes of bytes. Assumes nothing.
 --
--- part-of    the bytes of the block b, where blocks have size bytes
+-- part-of    the b-th part of a row that is cut into parts of size elements, as the bytes of the block b
+-- extent     how far a row reaches before nothing but empty elements is left, where empty says which are
 -- used       how far bytes reach before nothing but 0xFF is left
 -- ored       bytes, each with the fault's bits set
 -- outcome    what a call answers, and the memory and the supply after it
 -- Within     where bytes of a block lie in the memory
 use mathlib.Core.Path.{_≡_}
-use mathlib.Core.Bool.{cond}
+use mathlib.Core.Bool.{Bool, cond}
 use mathlib.Core.List.{List, [], _∷_, map}
 use Prim.Native.Nat.{ℕ, zero, suc, _+_, _*_, _≤_}
 use lib.Bits.{bitOr}
@@ -15,16 +16,19 @@ use lib.ListN.{take, drop}
 use Rattle.flash.specs.Rules.{Answer}
 use Rattle.devices.specs.declared.supply.Supply.{Supply}
 
-abbrev pub part-of : ℕ → List ℕ → ℕ → List ℕ
+abbrev pub part-of : {X : Type 0} → ℕ → List X → ℕ → List X
 part-of size mem b = take size (drop (b * size) mem)
 
-abbrev pub bump : ℕ → ℕ → ℕ
-bump x zero = cond (eqb x 255) 0 1
-bump x (suc k) = suc (suc k)
+abbrev pub bump : Bool → ℕ → ℕ
+bump e zero = cond e 0 1
+bump e (suc k) = suc (suc k)
+
+abbrev pub extent : {X : Type 0} → (X → Bool) → List X → ℕ
+extent empty [] = 0
+extent empty (x ∷ xs) = bump (empty x) (extent empty xs)
 
 abbrev pub used : List ℕ → ℕ
-used [] = 0
-used (x ∷ xs) = bump x (used xs)
+used = extent (λ x. eqb x 255)
 
 abbrev pub ored : ℕ → List ℕ → List ℕ
 ored j = map (λ x. bitOr x j)
@@ -37,6 +41,7 @@ pub record Outcome : Type 0 where
 abbrev pub outcome : Answer → List ℕ → Supply → Outcome
 outcome r m s = record { answer = r; mem = m; supply = s }
 
--- n bytes at the offset o of the block b begin at a byte of the memory, and lie in the block and in len bytes
-abbrev pub Within : ℕ → ℕ → ℕ → ℕ → ℕ → Type 0
-Within len b o n from = (from ≡ b * 4096 + o) × (o + n ≤ 4096) × (b * 4096 + 4096 ≤ len)
+-- n bytes at the offset o of the block b begin at a byte of the memory, and lie in the block and in len bytes; blocks have
+-- size bytes
+abbrev pub Within : ℕ → ℕ → ℕ → ℕ → ℕ → ℕ → Type 0
+Within size len b o n from = (from ≡ b * size + o) × (o + n ≤ size) × (b * size + size ≤ len)

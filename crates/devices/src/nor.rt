@@ -77,7 +77,7 @@ impl Nor<'_> {
     // Where in the memory n bytes at a place begin, or why a call for them is refused.
     pub(crate) fn locate(&self, at: Place, n: usize) -> Result<usize, Refusal>
         ensures value { λ r. ⌜ r ≡ answered (place-refusal (nor (now (now (self .entry) .memory)) (now (self .entry) .supply)) (at .block) (at .offset) n) (at .block * 4096 + at .offset) ⌝ }
-        ensures within { λ r. ⌜ Cases r (λ from. Within (length (now (now (self .entry) .memory))) (at .block) (at .offset) n from) (λ _. Unit {0}) ⌝ }
+        ensures within { λ r. ⌜ Cases r (λ from. Within 4096 (length (now (now (self .entry) .memory))) (at .block) (at .offset) n from) (λ _. Unit {0}) ⌝ }
     {
         if let Supply::Off = self.supply {
             return Err(Refusal::NoPower);
@@ -100,7 +100,7 @@ impl Nor<'_> {
     // Where in the memory a program of n bytes begins, or why it is refused.
     pub(crate) fn locate_blank(&self, at: Place, n: usize) -> Result<usize, Refusal>
         ensures value { λ r. ⌜ r ≡ answered (program-refusal (nor (now (now (self .entry) .memory)) (now (self .entry) .supply)) (at .block) (at .offset) n) (at .block * 4096 + at .offset) ⌝ }
-        ensures within { λ r. ⌜ Cases r (λ from. Within (length (now (now (self .entry) .memory))) (at .block) (at .offset) n from) (λ _. Unit {0}) ⌝ }
+        ensures within { λ r. ⌜ Cases r (λ from. Within 4096 (length (now (now (self .entry) .memory))) (at .block) (at .offset) n from) (λ _. Unit {0}) ⌝ }
     {
         let from = self.locate(at, n)?;
         if at.offset % PAGE != 0 || n % PAGE != 0 {
@@ -126,12 +126,9 @@ impl Nor<'_> {
             }
             Err(cut) => {
                 let end = (cut.after + 1) * PAGE;
-                tear(
-                    &mut self.memory[from..from + end],
-                    &bytes[0..end],
-                    PAGE,
-                    cut.fault,
-                );
+                let part = &mut self.memory[from..from + end];
+                part.copy_from_slice(&bytes[0..end]);
+                tear(part, PAGE, cut.fault);
                 self.supply = Supply::Off;
                 Err(Refusal::NoPower)
             }
