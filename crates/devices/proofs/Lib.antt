@@ -3,6 +3,7 @@ pub mod Extents
 pub mod Blocks
 pub mod Rows
 pub mod Supplies
+pub mod Cuts
 pub mod NorRefusals
 pub mod NorCalls
 pub mod NorMarks

@@ -5,7 +5,6 @@ use Prim.Native.Nat.{ℕ, _+_, _-_, _*_, _/_, _<_, _≤_}
 use native.Mathlib.Omega.{arith}
 use lib.ListN.{length, take, drop, replicate, length-take, length-drop, length-append, length-map, length-replicate}
 use borrow.Rule.Slice.PartMut.{putMid}
-use Rattle.std.proofs.shelf.Lists.{take-take, drop-take}
 use Rattle.std.specs.declared.option.Option.the-variants.{Some, None}
 use Rattle.std.specs.declared.result.Result.the-variants.{Ok, Err}
 use Rattle.flash.specs.declared.refusal.Refusal.{Refusal}
@@ -17,7 +16,8 @@ use Rattle.devices.specs.declared.supply.Supply.{Supply}
 use Rattle.devices.specs.declared.supply.Supply.the-variants.{Off}
 use Rattle.devices.specs.Steps.{spent}
 use Rattle.devices.specs.Memory.{ored, outcome}
-use Rattle.devices.specs.Nor.{SIZE, nor, cut-run, nor-program, nor-erase}
+use Rattle.devices.specs.Nor.{SIZE, nor, nor-program, nor-erase}
+use Rattle.devices.proofs.Cuts.{cut-run-is, cut-run-long}
 use Rattle.devices.proofs.Rows.{put-over}
 use Rattle.devices.proofs.Supplies.{cut-before}
 
@@ -39,20 +39,12 @@ module _ (mem : List ℕ) (s : Supply) (b o : ℕ) (run : List ℕ) where
     pub lay-cut : (c : Cut) (ys bs : List ℕ) (end : ℕ) → Err c ≡ spent s (length run / 4) → end ≡ (c .after + 1) * 4
         → bs ≡ take end run → ys ≡ take (length bs - 4) bs ++ ored (c .fault) (drop (length bs - 4) bs)
         → outcome (Err NoPower) (putMid from (from + end - from) mem ys) Off ≡ nor-program mem s b o run
-    unfolding nor-program SIZE cut-run
+    unfolding nor-program SIZE
     lay-cut c ys bs end h ee eb ey =
-        let le : end ≤ length run = omega (arith, cut-before s (length run / 4) c h) in
-        let lb : length bs ≡ end = ap length eb ∙ simp length-take (omega arith) in
-        let w : length bs - 4 ≡ c .after * 4 = omega arith in
-        let e4 : c .after * 4 + 4 ≡ end = omega arith in
-        let front : take (c .after * 4) bs ≡ take (c .after * 4) run = ap (take (c .after * 4)) eb ∙ take-take (c .after * 4) end run (omega arith) in
-        let back : drop (c .after * 4) bs ≡ take 4 (drop (c .after * 4) run) =
-        ap (drop (c .after * 4)) (eb ∙ ap (λ n. take n run) (sym e4)) ∙ drop-take (c .after * 4) 4 run in
-        let is-cut : ys ≡ cut-run c run =
-        ey ∙ (ap (λ n. take n bs ++ ored (c .fault) (drop n bs)) w ∙ (ap (λ (l : List ℕ). l ++ ored (c .fault) (drop (c .after * 4) bs)) front
-        ∙ ap (λ (l : List ℕ). take (c .after * 4) run ++ ored (c .fault) l) back)) in
-        let long : length ys ≡ from + end - from =
-        ap length ey ∙ simp (length-append, length-take, length-map, length-drop) (omega arith) in
+        let e4 : end ≡ c .after * 4 + 4 = omega arith in
+        let le : c .after * 4 + 4 ≤ length run = omega (arith, cut-before s (length run / 4) c h) in
+        let is-cut = cut-run-is 4 c run le ys bs end e4 eb ey in
+        let long : length ys ≡ from + end - from = ap length is-cut ∙ (cut-run-long 4 c run le ∙ omega arith) in
         rw (none, ← h) (ap (λ (m : List ℕ). outcome (Err NoPower) m Off) (put-over from (from + end - from) mem ys long ∙ rw (is-cut, is)))
 
 -- ─── erase ───

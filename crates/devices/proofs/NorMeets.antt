@@ -24,9 +24,10 @@ use Rattle.devices.specs.declared.supply.Cut.{Cut}
 use Rattle.devices.specs.declared.supply.Supply.{Supply}
 use Rattle.devices.specs.declared.supply.Supply.the-variants.{Steady, Armed, Off}
 use Rattle.devices.specs.Steps.{spent, arming, power-of}
-use Rattle.devices.specs.Memory.{part-of, used, ored, Outcome, outcome}
-use Rattle.devices.specs.Nor.{SIZE, mark-of, nor, cut-run, laid, wiped, unless, nor-program, nor-erase, nor-arm}
+use Rattle.devices.specs.Memory.{part-of, used, ored, cut-run, Outcome, outcome}
+use Rattle.devices.specs.Nor.{SIZE, mark-of, nor, laid, wiped, unless, nor-program, nor-erase, nor-arm}
 use Rattle.devices.proofs.Blocks.{part-full}
+use Rattle.devices.proofs.Cuts.{cut-page-long, cut-run-long}
 use Rattle.devices.proofs.NorMarks.{mark-blank, used-mark, mark-rises, mark-within-run}
 use Rattle.devices.proofs.NorMeaning.{nor-over, fits-of}
 use Rattle.devices.proofs.Rows.{over-whole, settled-is, cut-split, cells-over, cells-blank, part-cells, changed}
@@ -84,7 +85,7 @@ module _ (mem : List ℕ) (s : Supply) (b o : ℕ) (run : List ℕ) (none : prog
             });
       }
 
-  program-failed : (c : Cut) → Err c ≡ spent s (length run / 4) → Failed (nor mem s) b o run (nor (over mem (b * SIZE + o) (cut-run c run)) Off)
+  program-failed : (c : Cut) → Err c ≡ spent s (length run / 4) → Failed (nor mem s) b o run (nor (over mem (b * SIZE + o) (cut-run 4 c run)) Off)
   unfolding nor changed broken cut-run B
   program-failed c h =
       let f = fit in
@@ -92,17 +93,17 @@ module _ (mem : List ℕ) (s : Supply) (b o : ℕ) (run : List ℕ) (none : prog
       let sp = ored (c .fault) (take 4 (drop w run)) in
       let lt = cut-before s (length run / 4) c h in
       let lw : w + 4 ≤ length run = omega arith in
-      let l4 : length sp ≡ 4 = length-map _ _ ∙ simp (length-take, length-drop) (omega arith) in
-      let lc : length (cut-run c run) ≡ w + 4 = omega (arith, length-append (take w run) sp, length-take w run, l4) in
+      let l4 : length sp ≡ 4 = cut-page-long 4 c run lw in
+      let lc : length (cut-run 4 c run) ≡ w + 4 = cut-run-long 4 c run lw in
       let at4 : ((o + w) / 4) * 4 ≡ o + w = omega (arith, f .page-o) in
-      let split : over B o (cut-run c run) ≡ take (o + w) (over B o run) ++ (sp ++ drop (o + w + 4) B) =
+      let split : over B o (cut-run 4 c run) ≡ take (o + w) (over B o run) ++ (sp ++ drop (o + w + 4) B) =
       cut-split B run sp o w (omega (arith, full, f .inside)) (omega arith) ∙ ap (λ n. take (o + w) (over B o run) ++ (sp ++ drop (o + w + n) B)) l4 in
-      let is : cells (over B o (cut-run c run)) ≡ take (o + w) (over (cells B) o (cells run)) ++ (cells sp ++ drop (o + w + 4) (cells B)) =
+      let is : cells (over B o (cut-run 4 c run)) ≡ take (o + w) (over (cells B) o (cells run)) ++ (cells sp ++ drop (o + w + 4) (cells B)) =
       ap cells split ∙ (map-append byte (take (o + w) (over B o run)) _ ∙ (ap (λ (r : List Cell). cells (take (o + w) (over B o run)) ++ r) (map-append byte sp _)
       ∙ rw (← take-map byte (o + w) (over B o run), cells-over B run o, ← drop-map byte (o + w + 4) B))) in
       record {
         armed-before = cut-armed s (length run / 4) c h;
-        left = cells (over B o (cut-run c run));
+        left = cells (over B o (cut-run 4 c run));
         torn = record {
           at = (o + w) / 4;
           concerned = rules.Concerned.takes (omega arith) (omega arith) (omega arith);
@@ -110,8 +111,8 @@ module _ (mem : List ℕ) (s : Supply) (b o : ℕ) (run : List ℕ) (none : prog
           is-spoilt = rules.Spoilt.bytes sp l4 refl;
           is = rw at4 is;
         };
-        marks = with-at (λ i. mark-of (part-of SIZE mem i)) b (mark-of (over B o (cut-run c run)));
-        is = nor-over mem (cut-run c run) b o (omega (arith, f .inside)) (f .fits) s Off;
+        marks = with-at (λ i. mark-of (part-of SIZE mem i)) b (mark-of (over B o (cut-run 4 c run)));
+        is = nor-over mem (cut-run 4 c run) b o (omega (arith, f .inside)) (f .fits) s Off;
       }
 
   pub goes : (x : Result Supply Cut) → x ≡ spent s (length run / 4)

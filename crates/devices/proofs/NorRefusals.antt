@@ -14,8 +14,8 @@ use Rattle.flash.proofs.Refusals.{place-inside, program-by-place, program-past-
 use Rattle.devices.specs.declared.supply.Supply.{Supply}
 use Rattle.devices.specs.declared.supply.Supply.the-variants.{Off}
 use Rattle.devices.specs.Steps.{power-of}
-use Rattle.devices.specs.Memory.{part-of, used, Within}
-use Rattle.devices.specs.Nor.{SIZE, mark-of, nor, leaves}
+use Rattle.devices.specs.Memory.{part-of, used, leaves, Within}
+use Rattle.devices.specs.Nor.{SIZE, mark-of, nor}
 use Rattle.devices.proofs.Bytes.{used-le}
 
 module _ (mem : List ℕ) (s : Supply) (b o n : ℕ) where
@@ -23,11 +23,11 @@ module _ (mem : List ℕ) (s : Supply) (b o n : ℕ) where
   unfolding nor place-refusal
   place-off e = rw e
 
-  pub place-out : is-off (power-of s) ≡ false → true ≡ leaves (length mem) b o n → Some Outside ≡ place-refusal (nor mem s) b o n
+  pub place-out : is-off (power-of s) ≡ false → true ≡ leaves 4096 (length mem) b o n → Some Outside ≡ place-refusal (nor mem s) b o n
   unfolding nor place-refusal SIZE
   place-out on l = rw (on, ← l)
 
-  pub place-none : is-off (power-of s) ≡ false → false ≡ leaves (length mem) b o n → None ≡ place-refusal (nor mem s) b o n
+  pub place-none : is-off (power-of s) ≡ false → false ≡ leaves 4096 (length mem) b o n → None ≡ place-refusal (nor mem s) b o n
   unfolding nor place-refusal SIZE
   place-none on l = rw (on, ← l)
 

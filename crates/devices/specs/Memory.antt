@@ -4,16 +4,19 @@
 -- extent     how far a row reaches before nothing but empty elements is left, where empty says which are
 -- used       how far bytes reach before nothing but 0xFF is left
 -- ored       bytes, each with the fault's bits set
+-- cut-run    what reaches a chip of a run of pages, one of which fails
+-- leaves     whether bytes at a place leave the block, or the chip
 -- outcome    what a call answers, and the memory and the supply after it
 -- Within     where bytes of a block lie in the memory
 use mathlib.Core.Path.{_≡_}
-use mathlib.Core.Bool.{Bool, cond}
-use mathlib.Core.List.{List, [], _∷_, map}
-use Prim.Native.Nat.{ℕ, zero, suc, _+_, _*_, _≤_}
+use mathlib.Core.Bool.{Bool, true, cond}
+use mathlib.Core.List.{List, [], _∷_, _++_, map}
+use Prim.Native.Nat.{ℕ, zero, suc, _+_, _*_, _/_, _≤_, min}
 use lib.Bits.{bitOr}
-use lib.Dec.{eqb}
+use lib.Dec.{eqb, ltb}
 use lib.ListN.{take, drop}
 use Rattle.flash.specs.Rules.{Answer}
+use Rattle.devices.specs.declared.supply.Cut.{Cut}
 use Rattle.devices.specs.declared.supply.Supply.{Supply}
 
 abbrev pub part-of : {X : Type 0} → ℕ → List X → ℕ → List X
@@ -32,6 +35,14 @@ used = extent (λ x. eqb x 255)
 
 abbrev pub ored : ℕ → List ℕ → List ℕ
 ored j = map (λ x. bitOr x j)
+
+-- the pages before the one that fails, and that one with the fault; pages have page bytes
+unfoldable pub cut-run : ℕ → Cut → List ℕ → List ℕ
+cut-run page c run = take (c .after * page) run ++ ored (c .fault) (take page (drop (c .after * page) run))
+
+-- n bytes at the offset o of the block b, on a chip of len bytes with blocks of size bytes, 16 of them at most
+abbrev pub leaves : ℕ → ℕ → ℕ → ℕ → ℕ → Bool
+leaves size len b o n = cond (ltb b (min (len / size) 16)) (ltb size (o + n)) true
 
 pub record Outcome : Type 0 where
   pub answer : Answer

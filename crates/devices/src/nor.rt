@@ -8,8 +8,8 @@ ghost use Rattle.flash.specs.Refused.{place-refusal, program-refusal};
 ghost use Rattle.flash.specs.Meaning.{Sane};
 ghost use Rattle.flash.specs.Rules.{answered, Programmed, Erased, Armed, Restarted};
 ghost use denote.Ref.{now};
-ghost use Rattle.devices.specs.Memory.{part-of, outcome, Within};
-ghost use Rattle.devices.specs.Nor.{SIZE, mark-of, nor, leaves, holds-blocks, nor-program, nor-erase, nor-arm};
+ghost use Rattle.devices.specs.Memory.{part-of, leaves, outcome, Within};
+ghost use Rattle.devices.specs.Nor.{SIZE, mark-of, nor, holds-blocks, nor-program, nor-erase, nor-arm};
 use crate::memory::reach;
 use crate::memory::spoil;
 use crate::memory::tear;
@@ -63,7 +63,7 @@ impl Nor<'_> {
 
     // Whether n bytes at a place leave the block, or the chip.
     pub(crate) fn leaves(&self, at: Place, n: usize) -> bool
-        ensures { λ r. ⌜ r ≡ leaves (length (now (now (self .entry) .memory))) (at .block) (at .offset) n ⌝ }
+        ensures { λ r. ⌜ r ≡ leaves 4096 (length (now (now (self .entry) .memory))) (at .block) (at .offset) n ⌝ }
     {
         if at.block >= self.blocks() {
             return true;
