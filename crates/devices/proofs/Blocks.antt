@@ -15,7 +15,7 @@ use Rattle.devices.specs.Memory.{part-of}
 pub part-full : {X : Type 0} (size : ℕ) (mem : List X) (b : ℕ) → b * size + size ≤ length mem → length (part-of size mem b) ≡ size
 part-full size mem b h = simp (length-take, length-drop) (omega arith)
 
-at-part : {X : Type 0} (size : ℕ) (xs : List X) (i j : ℕ) (d : X) → j < size → getD (part-of size xs i) j d ≡ getD xs (i * size + j) d
+pub at-part : {X : Type 0} (size : ℕ) (xs : List X) (i j : ℕ) (d : X) → j < size → getD (part-of size xs i) j d ≡ getD xs (i * size + j) d
 at-part size xs i j d h = getD-take size (drop (i * size) xs) j d h ∙ getD-drop (i * size) xs j d
 
 part-long : {X : Type 0} (size : ℕ) (xs ys : List X) (i : ℕ) → length xs ≡ length ys → length (part-of size xs i) ≡ length (part-of size ys i)

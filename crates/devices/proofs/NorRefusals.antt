@@ -2,7 +2,7 @@
 use mathlib.Core.Path.{_≡_, refl, sym, _∙_, ap}
 use mathlib.Core.Bool.{true, false}
 use mathlib.Core.List.{List}
-use Prim.Native.Nat.{ℕ, _+_, _-_, _*_, _/_, _%_, _<_, _≤_}
+use Prim.Native.Nat.{ℕ, _+_, _-_, _*_, _/_, _%_, _<_, _≤_, min}
 use native.Mathlib.Omega.{arith}
 use lib.ListN.{length, take, drop, length-take}
 use Rattle.std.proofs.shelf.Tests.{ne-eqb, eq-eqb, lt-ltb, le-ltb}
@@ -23,11 +23,11 @@ module _ (mem : List ℕ) (s : Supply) (b o n : ℕ) where
   unfolding nor place-refusal
   place-off e = rw e
 
-  pub place-out : is-off (power-of s) ≡ false → true ≡ leaves 4096 (length mem) b o n → Some Outside ≡ place-refusal (nor mem s) b o n
+  pub place-out : is-off (power-of s) ≡ false → true ≡ leaves (min (length mem / 4096) 16) 4096 b o n → Some Outside ≡ place-refusal (nor mem s) b o n
   unfolding nor place-refusal SIZE
   place-out on l = rw (on, ← l)
 
-  pub place-none : is-off (power-of s) ≡ false → false ≡ leaves 4096 (length mem) b o n → None ≡ place-refusal (nor mem s) b o n
+  pub place-none : is-off (power-of s) ≡ false → false ≡ leaves (min (length mem / 4096) 16) 4096 b o n → None ≡ place-refusal (nor mem s) b o n
   unfolding nor place-refusal SIZE
   place-none on l = rw (on, ← l)
 

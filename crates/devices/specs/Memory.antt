@@ -11,7 +11,7 @@
 use mathlib.Core.Path.{_≡_}
 use mathlib.Core.Bool.{Bool, true, cond}
 use mathlib.Core.List.{List, [], _∷_, _++_, map}
-use Prim.Native.Nat.{ℕ, zero, suc, _+_, _*_, _/_, _≤_, min}
+use Prim.Native.Nat.{ℕ, zero, suc, _+_, _*_, _≤_}
 use lib.Bits.{bitOr}
 use lib.Dec.{eqb, ltb}
 use lib.ListN.{take, drop}
@@ -40,9 +40,9 @@ ored j = map (λ x. bitOr x j)
 unfoldable pub cut-run : ℕ → Cut → List ℕ → List ℕ
 cut-run page c run = take (c .after * page) run ++ ored (c .fault) (take page (drop (c .after * page) run))
 
--- n bytes at the offset o of the block b, on a chip of len bytes with blocks of size bytes, 16 of them at most
+-- n bytes at the offset o of the block b, on a chip of so many blocks of size bytes
 abbrev pub leaves : ℕ → ℕ → ℕ → ℕ → ℕ → Bool
-leaves size len b o n = cond (ltb b (min (len / size) 16)) (ltb size (o + n)) true
+leaves blocks size b o n = cond (ltb b blocks) (ltb size (o + n)) true
 
 pub record Outcome : Type 0 where
   pub answer : Answer

@@ -63,7 +63,7 @@ impl Nor<'_> {
 
     // Whether n bytes at a place leave the block, or the chip.
     pub(crate) fn leaves(&self, at: Place, n: usize) -> bool
-        ensures { λ r. ⌜ r ≡ leaves 4096 (length (now (now (self .entry) .memory))) (at .block) (at .offset) n ⌝ }
+        ensures { λ r. ⌜ r ≡ leaves (min (length (now (now (self .entry) .memory)) / 4096) 16) 4096 (at .block) (at .offset) n ⌝ }
     {
         if at.block >= self.blocks() {
             return true;
