@@ -7,3 +7,4 @@ pub mod NandLooks
 pub mod NandCalls
 pub mod NandMeaning
 pub mod NandMeets
+pub mod NandAnswers

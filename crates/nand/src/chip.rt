@@ -224,3 +224,64 @@ impl Nand<'_> {
         self.supply = Supply::Steady;
     }
 }
+
+// Beyond the interface, `exact` says what it leaves open: how many steps are left after a call, and which page or block
+// fails with which bytes, and can or cannot be read.
+pub impl Flash for Nand<'_> as NandFlash {
+    ghost meaning = { λ s. nand (bytes-in (s .kind)) (now (s .memory)) (s .lost) (s .supply) };
+
+    ghost ok = { λ _. Unit {0} };
+
+    fn shape(&self) -> Shape {
+        Shape {
+            blocks: self.blocks(),
+            size: self.kind.block(),
+            page: self.kind.bytes(),
+            batch: self.kind.bytes(),
+        }
+    }
+
+    fn mark(&self, block: usize) -> Result<usize, Refusal> {
+        self.locate(Place { block, offset: 0 }, 0)?;
+        Ok(self.mark_of(block))
+    }
+
+    fn read(&self, at: Place, out: &mut [u8]) -> Result<(), Refusal> {
+        let n = out.len();
+        let from = self.locate_read(at, n)?;
+        out.copy_from_slice(&self.memory[from..from + n]);
+        Ok(())
+    }
+
+    fn program(&mut self, at: Place, bytes: &[u8]) -> Result<(), Refusal>
+        ensures met { λ r. ⌜ (Unit {0} → Unit {0} × Sane (nand (bytes-in (now (self .exit) .kind)) (now (now (self .exit) .memory)) (now (self .exit) .lost) (now (self .exit) .supply)) × Programmed (nand (bytes-in (now (self .entry) .kind)) (now (now (self .entry) .memory)) (now (self .entry) .lost) (now (self .entry) .supply)) (at .block) (at .offset) (now (bytes .entry)) r (nand (bytes-in (now (self .exit) .kind)) (now (now (self .exit) .memory)) (now (self .exit) .lost) (now (self .exit) .supply))) ⌝ }
+        ensures exact { λ r. ⌜ outcome r (now (now (self .exit) .memory)) (now (self .exit) .lost) (now (self .exit) .supply) ≡ nand-program (bytes-in (now (self .entry) .kind)) (now (now (self .entry) .memory)) (now (self .entry) .lost) (now (self .entry) .supply) (at .block) (at .offset) (now (bytes .entry)) ⌝ }
+        ensures same { λ _. ⌜ now (self .exit) .kind ≡ now (self .entry) .kind ⌝ }
+    {
+        self.lay(at, bytes)
+    }
+
+    fn erase(&mut self, block: usize) -> Result<(), Refusal>
+        ensures met { λ r. ⌜ (Unit {0} → Unit {0} × Sane (nand (bytes-in (now (self .exit) .kind)) (now (now (self .exit) .memory)) (now (self .exit) .lost) (now (self .exit) .supply)) × Erased (nand (bytes-in (now (self .entry) .kind)) (now (now (self .entry) .memory)) (now (self .entry) .lost) (now (self .entry) .supply)) block r (nand (bytes-in (now (self .exit) .kind)) (now (now (self .exit) .memory)) (now (self .exit) .lost) (now (self .exit) .supply))) ⌝ }
+        ensures exact { λ r. ⌜ outcome r (now (now (self .exit) .memory)) (now (self .exit) .lost) (now (self .exit) .supply) ≡ nand-erase (bytes-in (now (self .entry) .kind)) (now (now (self .entry) .memory)) (now (self .entry) .lost) (now (self .entry) .supply) block ⌝ }
+        ensures same { λ _. ⌜ now (self .exit) .kind ≡ now (self .entry) .kind ⌝ }
+    {
+        self.clear(block)
+    }
+
+    fn arm(&mut self, steps: usize, fault: u8) -> Result<(), Refusal>
+        ensures met { λ r. ⌜ (Unit {0} → Unit {0} × Sane (nand (bytes-in (now (self .exit) .kind)) (now (now (self .exit) .memory)) (now (self .exit) .lost) (now (self .exit) .supply)) × Armed (nand (bytes-in (now (self .entry) .kind)) (now (now (self .entry) .memory)) (now (self .entry) .lost) (now (self .entry) .supply)) r (nand (bytes-in (now (self .exit) .kind)) (now (now (self .exit) .memory)) (now (self .exit) .lost) (now (self .exit) .supply))) ⌝ }
+        ensures exact { λ r. ⌜ outcome r (now (now (self .exit) .memory)) (now (self .exit) .lost) (now (self .exit) .supply) ≡ nand-arm (now (now (self .entry) .memory)) (now (self .entry) .lost) (now (self .entry) .supply) steps fault ⌝ }
+        ensures same { λ _. ⌜ now (self .exit) .kind ≡ now (self .entry) .kind ⌝ }
+    {
+        self.supply = self.supply.arm(steps, fault)?;
+        Ok(())
+    }
+
+    fn restart(&mut self)
+        ensures met { λ _. ⌜ (Unit {0} → Unit {0} × Sane (nand (bytes-in (now (self .exit) .kind)) (now (now (self .exit) .memory)) (now (self .exit) .lost) (now (self .exit) .supply)) × Restarted (nand (bytes-in (now (self .entry) .kind)) (now (now (self .entry) .memory)) (now (self .entry) .lost) (now (self .entry) .supply)) (nand (bytes-in (now (self .exit) .kind)) (now (now (self .exit) .memory)) (now (self .exit) .lost) (now (self .exit) .supply))) ⌝ }
+        ensures exact { λ _. ⌜ (now (now (self .exit) .memory) ≡ now (now (self .entry) .memory)) × (now (self .exit) .kind ≡ now (self .entry) .kind) × (now (self .exit) .lost ≡ now (self .entry) .lost) × (now (self .exit) .supply ≡ Supply.Steady) ⌝ }
+    {
+        self.power_up();
+    }
+}
