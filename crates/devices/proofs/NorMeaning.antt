@@ -5,7 +5,7 @@ use mathlib.Core.List.{List}
 use Prim.Native.Nat.{ℕ, _+_, _*_, _/_, _%_, _^_, _<_, _≤_, min}
 use native.Mathlib.Omega.{arith}
 use lib.ListN.{length, getD, length-map}
-use Rattle.flash.specs.Cells.{Cell, byte, lost, cells, over}
+use Rattle.flash.specs.Cells.{byte, lost, cells, over}
 use Rattle.flash.specs.Meaning.{Sane, with-at}
 use Rattle.flash.proofs.Over.{by-place, over-length}
 use Rattle.devices.specs.declared.supply.Supply.{Supply}

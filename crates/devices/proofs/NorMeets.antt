@@ -1,12 +1,10 @@
 -- The calls of a NOR chip keep the rules of a flash.
 use mathlib.Core.Path.{_≡_, refl, sym, _∙_, ap}
-use mathlib.Core.Bool.{Bool, true, false, cond}
-use mathlib.Core.List.{List, [], _∷_, _++_, map-append, append-assoc, append-nil}
-use Prim.Native.Nat.{ℕ, zero, suc, _+_, _-_, _*_, _/_, _%_, _≤_}
+use mathlib.Core.List.{List, _++_, map-append}
+use Prim.Native.Nat.{ℕ, _+_, _*_, _/_, _%_, _≤_}
 use native.Mathlib.Nat.{add-zero}
 use native.Mathlib.Omega.{arith}
-use lib.Dec.{ltb}
-use lib.ListN.{length, take, drop, replicate, length-take, length-drop, length-append, length-map, length-replicate, take-append-drop}
+use lib.ListN.{length, take, drop, replicate, length-take, length-drop, length-map, length-replicate}
 use Rattle.std.proofs.shelf.Lists.{take-map, drop-map}
 use Rattle.std.specs.declared.option.Option.{Option}
 use Rattle.std.specs.declared.option.Option.the-variants.{Some, None}
@@ -15,7 +13,7 @@ use Rattle.std.specs.declared.result.Result.the-variants.{Ok, Err}
 use Rattle.flash.specs.declared.refusal.Refusal.{Refusal}
 use Rattle.flash.specs.declared.refusal.Refusal.the-variants.{NoPower}
 use Rattle.flash.specs.Cells.{Cell, byte, cells, blank, over}
-use Rattle.flash.specs.Meaning.{armed, off, with-at}
+use Rattle.flash.specs.Meaning.{off, with-at}
 use Rattle.flash.specs.Refused.{program-refusal, erase-refusal, arm-refusal}
 use Rattle.flash.specs.Rules as rules
 use Rattle.flash.specs.Rules.{programmed, broken, erased, powered, restarted, Programmed, Erased, Restarted, Passed, Failed}
@@ -23,7 +21,7 @@ use Rattle.flash.proofs.Refusals.{accepted, place-inside}
 use Rattle.devices.specs.declared.supply.Cut.{Cut}
 use Rattle.devices.specs.declared.supply.Supply.{Supply}
 use Rattle.devices.specs.declared.supply.Supply.the-variants.{Steady, Armed, Off}
-use Rattle.devices.specs.Steps.{spent, arming, power-of}
+use Rattle.devices.specs.Steps.{spent, arming}
 use Rattle.devices.specs.Memory.{part-of, used, ored, cut-run, Outcome, outcome}
 use Rattle.devices.specs.Nor.{SIZE, mark-of, nor, laid, wiped, unless, nor-program, nor-erase, nor-arm}
 use Rattle.devices.proofs.Blocks.{part-full}

@@ -1,12 +1,12 @@
 -- What a NAND chip means: it is sane at all times, and new bytes and flags in one block change that block alone.
 use mathlib.Core.Path.{_≡_, refl, sym, _∙_, ap}
-use mathlib.Core.Bool.{Bool, true, false, cond, not}
+use mathlib.Core.Bool.{Bool, true, false, cond}
 use mathlib.Core.List.{List}
-use Prim.Native.Nat.{ℕ, _+_, _*_, _/_, _%_, _^_, _<_, _≤_, min}
+use Prim.Native.Nat.{ℕ, _+_, _*_, _/_, _<_, _≤_, min}
 use native.Mathlib.Nat.{mod-self, zero-mod, mul-mod-left}
 use native.Mathlib.Omega.{arith}
 use lib.ListN.{length, getD}
-use Rattle.flash.specs.Cells.{Cell, byte, lost, over}
+use Rattle.flash.specs.Cells.{byte, lost, over}
 use Rattle.flash.specs.Meaning.{Sane, with-at}
 use Rattle.flash.proofs.Over.{by-place, over-length}
 use Rattle.devices.specs.declared.supply.Supply.{Supply}

@@ -1,9 +1,9 @@
 -- The calls of a NAND chip keep the rules of a flash.
 use mathlib.Core.Path.{_≡_, refl, sym, _∙_, ap, subst}
 use mathlib.Core.Bool.{Bool, true, false, not}
-use mathlib.Core.List.{List, [], _∷_, _++_, append-assoc}
-use Prim.Native.Nat.{ℕ, zero, suc, _+_, _-_, _*_, _/_, _%_, _<_, _≤_}
-use native.Mathlib.Nat.{add-zero, zero-mul, add-mul, suc-mul, div-add-mod', mul-div-cancel, mul-le-mul-right}
+use mathlib.Core.List.{List, [], _∷_, _++_}
+use Prim.Native.Nat.{ℕ, _+_, _*_, _/_, _%_, _<_, _≤_}
+use native.Mathlib.Nat.{add-zero, zero-mul, add-mul, div-add-mod', mul-div-cancel, mul-le-mul-right}
 use native.Mathlib.Omega.{arith}
 use lib.ListN.{length, take, drop, replicate, length-take, length-drop, length-append, length-map, length-replicate, take-append-drop}
 use Rattle.std.proofs.shelf.Bits.{le-div}
@@ -15,7 +15,7 @@ use Rattle.std.specs.declared.result.Result.the-variants.{Ok, Err}
 use Rattle.flash.specs.declared.refusal.Refusal.{Refusal}
 use Rattle.flash.specs.declared.refusal.Refusal.the-variants.{NoPower}
 use Rattle.flash.specs.Cells.{Cell, byte, cells, blank, over}
-use Rattle.flash.specs.Meaning.{armed, off, with-at}
+use Rattle.flash.specs.Meaning.{with-at}
 use Rattle.flash.specs.Refused.{program-refusal, erase-refusal, arm-refusal}
 use Rattle.flash.specs.Rules as rules
 use Rattle.flash.specs.Rules.{programmed, broken, erased, powered, restarted, Programmed, Erased, Restarted, Passed, Failed}
@@ -23,7 +23,7 @@ use Rattle.flash.proofs.Refusals.{accepted, place-inside}
 use Rattle.devices.specs.declared.supply.Cut.{Cut}
 use Rattle.devices.specs.declared.supply.Supply.{Supply}
 use Rattle.devices.specs.declared.supply.Supply.the-variants.{Steady, Armed, Off}
-use Rattle.devices.specs.Steps.{spent, arming, power-of}
+use Rattle.devices.specs.Steps.{spent, power-of}
 use Rattle.devices.specs.Memory.{part-of, ored, extent, cut-run}
 use Rattle.devices.proofs.Blocks.{part-full}
 use Rattle.devices.proofs.Cuts.{cut-page-long, cut-run-long}
@@ -32,9 +32,9 @@ use Rattle.devices.proofs.Rows.{over-whole, settled-is, cut-split, cells-blank,
 use Rattle.devices.proofs.Supplies.{spent-power, cut-armed, cut-before}
 use Rattle.nand.specs.Sizes.{size-of}
 use Rattle.nand.specs.Pages.{page-cells, shown-by, pages-used, mark-of, odd, cut-pages, lost-by}
-use Rattle.nand.specs.Nand.{nand, blocks-of, Outcome, outcome, laid, wiped, unless, nand-program, nand-erase, nand-arm}
+use Rattle.nand.specs.Nand.{nand, blocks-of, Outcome, laid, wiped, unless, nand-program, nand-erase, nand-arm}
 use Rattle.nand.proofs.NandCalls.{cut-fits}
-use Rattle.nand.proofs.NandLooks.{flags-full, bytes-full, us-long}
+use Rattle.nand.proofs.NandLooks.{flags-full, bytes-full}
 use Rattle.nand.proofs.NandMeaning.{bytes-there, flags-there, nand-over}
 use Rattle.nand.proofs.Shown.{page-long, page-spoilt, shown-long, shown-over, used-long, used-over, shown-clear, shown-cut, pages-spoilt, used-erased}
 
@@ -376,12 +376,6 @@ armed-as p mem fs Off n j = rules.Armed.refused NoPower refl refl refl
 pub arm-meets : (p : ℕ) (mem : List ℕ) (fs : List Bool) (s : Supply) (n j : ℕ) (out : Outcome) → out ≡ nand-arm mem fs s n j
     → rules.Armed (nand p mem fs s) (out .answer) (nand p (out .mem) (out .flags) (out .supply))
 arm-meets p mem fs s n j out is = rw is (armed-as p mem fs s n j)
-
-pub arm-done : (mem : List ℕ) (fs : List Bool) (s s′ : Supply) (n j : ℕ) → Ok s′ ≡ arming s n j → outcome (Ok tt) mem fs s′ ≡ nand-arm mem fs s n j
-arm-done mem fs s s′ n j h = rw (← h)
-
-pub arm-refused : (mem : List ℕ) (fs : List Bool) (s : Supply) (n j : ℕ) (e : Refusal) → Err e ≡ arming s n j → outcome (Err e) mem fs s ≡ nand-arm mem fs s n j
-arm-refused mem fs s n j e h = rw (← h)
 
 pub restart-meets : (p : ℕ) (mem : List ℕ) (fs : List Bool) (s : Supply) → Restarted (nand p mem fs s) (nand p mem fs Steady)
 unfolding nand restarted

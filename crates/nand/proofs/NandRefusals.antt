@@ -2,16 +2,16 @@
 use mathlib.Core.Path.{_≡_, refl, sym, _∙_, ap}
 use mathlib.Core.Bool.{Bool, true, false, not}
 use mathlib.Core.List.{List}
-use Prim.Native.Nat.{ℕ, _+_, _-_, _*_, _/_, _%_, _<_, _≤_, min}
-use native.Mathlib.Nat.{suc-mul, mul-le-mul-right, div-mul-le-self, le-of-lt}
+use Prim.Native.Nat.{ℕ, _+_, _*_, _/_, _%_, _<_, _≤_}
+use native.Mathlib.Nat.{suc-mul, mul-le-mul-right, div-mul-le-self}
 use native.Mathlib.Omega.{arith}
-use lib.ListN.{length, take, drop, length-take}
-use Rattle.std.proofs.shelf.Tests.{ne-eqb, eq-eqb, lt-ltb, le-ltb, ltb-false, true≢false}
+use lib.ListN.{length}
+use Rattle.std.proofs.shelf.Tests.{ne-eqb, eq-eqb, lt-ltb, le-ltb}
 use Rattle.std.specs.declared.option.Option.the-variants.{Some, None}
 use Rattle.flash.specs.declared.refusal.Refusal.{Refusal}
 use Rattle.flash.specs.declared.refusal.Refusal.the-variants.{NoPower, Outside, NotPages, BelowMark, Unreadable}
 use Rattle.flash.specs.Refused.{is-off, first, place-refusal, program-refusal, read-refusal, other-held, readable, part}
-use Rattle.flash.proofs.Refusals.{place-inside, program-by-place, program-past-place, read-by-place, read-past-place, none-other, of-program, of-read}
+use Rattle.flash.proofs.Refusals.{place-inside, program-by-place, program-past-place, read-by-place, read-past-place, none-other, of-program}
 use Rattle.devices.specs.declared.supply.Supply.{Supply}
 use Rattle.devices.specs.declared.supply.Supply.the-variants.{Off}
 use Rattle.devices.specs.Steps.{power-of}

@@ -3,17 +3,17 @@ use mathlib.Core.Path.{_≡_, refl, sym, _∙_, ap, subst}
 use mathlib.Core.Bool.{Bool, true, false, cond, not}
 use mathlib.Core.List.{List, [], _∷_, _++_}
 use Prim.Native.Nat.{ℕ, zero, suc, _+_, _-_, _*_, _/_, _≤_, _<_}
-use native.Mathlib.Nat.{suc-add, suc-mul, zero-mul, add-mul, one-mul, mul-le-mul-right, div-mul-le-self, lt-div-mul-add, le-div-iff-mul-le}
+use native.Mathlib.Nat.{suc-add, suc-mul, zero-mul, add-mul, div-mul-le-self, lt-div-mul-add}
 use native.Mathlib.Numerals.{add-one}
 use native.Mathlib.Omega.{arith}
-use lib.ListN.{length, take, drop, replicate, length-take, length-drop, length-append}
+use lib.ListN.{length, take, drop, length-take, length-drop}
 use Rattle.std.proofs.shelf.Lists.{take-append-le, drop-append-le, drop-drop, take-all, take-append-drop}
 use Rattle.std.proofs.shelf.Bits.{le-div, div-below}
 use Rattle.std.proofs.shelf.Tests.{true≢false}
 use Rattle.flash.specs.Cells.{Cell, byte, lost, cells}
 use Rattle.flash.specs.Refused.{readable, part}
-use Rattle.nand.specs.Pages.{by-pages, page-cells, shown-by, any}
-use Rattle.nand.proofs.Shown.{page-long, shown-drop, shown-long}
+use Rattle.nand.specs.Pages.{page-cells, shown-by, any}
+use Rattle.nand.proofs.Shown.{page-long, shown-drop}
 
 -- ─── cells over bytes ───
 

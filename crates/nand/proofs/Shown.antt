@@ -1,22 +1,22 @@
 -- What a block shows, and how far it is used.
-use mathlib.Core.Path.{_≡_, refl, sym, _∙_, ap, subst}
+use mathlib.Core.Path.{_≡_, refl, sym, _∙_, ap}
 use mathlib.Core.Bool.{Bool, true, false, cond, not}
 use mathlib.Core.List.{List, [], _∷_, _++_, append-nil}
-use mathlib.Core.Logic.{_⊎_, ⊎-elim}
+use mathlib.Core.Logic.{⊎-elim}
 use Prim.Native.Nat.{ℕ, zero, suc, _+_, _-_, _*_, _/_, _≤_, _<_}
 use native.Mathlib.Nat.{suc-mul, zero-mul, mul-one, add-zero, mul-le-mul-right, div-eq-of-lt, div-eq-sub-div}
 use native.Mathlib.Numerals.{add-one}
 use native.Mathlib.Omega.{arith}
 use lib.Dec.{eqb, ltb}
-use lib.ListN.{length, take, drop, replicate, getD, length-take, length-drop, length-append, length-map, length-replicate}
+use lib.ListN.{length, take, drop, replicate, getD, length-take, length-drop, length-map, length-replicate}
 use Rattle.std.proofs.shelf.Lists.{getD-replicate, getD-append-left, getD-append-right, getD-take, getD-drop, take-all, drop-all, map-append, take-append-drop, take-replicate, drop-replicate}
 use Rattle.std.proofs.shelf.Tests.{cases-lt, ltb-false, true≢false}
 use Rattle.flash.specs.Cells.{Cell, byte, lost, cells, over}
 use Rattle.flash.specs.Rules as rules
 use Rattle.devices.specs.Memory.{bump, extent, used}
-use Rattle.devices.proofs.Bytes.{extent-le, extent-more}
+use Rattle.devices.proofs.Bytes.{extent-more}
 use Rattle.devices.proofs.Extents.{bump-none, extent-empty, unused}
-use Rattle.devices.proofs.Rows.{getD-cells, not-lost}
+use Rattle.devices.proofs.Rows.{getD-cells}
 use Rattle.nand.specs.Pages.{by-pages, page-cells, shown-by, page-used, pages-used, mark-of}
 use Rattle.nand.proofs.ByPages.{by-pages-long, by-pages-append, by-pages-drop, by-pages-at, by-pages-over}
 

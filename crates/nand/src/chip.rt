@@ -217,6 +217,20 @@ impl Nand<'_> {
         }
     }
 
+    // Arms the power anew.
+    pub(crate) fn rearm(&mut self, steps: usize, fault: u8) -> Result<(), Refusal>
+        ensures value { λ r. ⌜ outcome r (now (now (self .exit) .memory)) (now (self .exit) .lost) (now (self .exit) .supply) ≡ nand-arm (now (now (self .entry) .memory)) (now (self .entry) .lost) (now (self .entry) .supply) steps fault ⌝ }
+        ensures same { λ _. ⌜ now (self .exit) .kind ≡ now (self .entry) .kind ⌝ }
+    {
+        match self.supply.arm(steps, fault) {
+            Ok(supply) => {
+                self.supply = supply;
+                Ok(())
+            }
+            Err(refusal) => Err(refusal),
+        }
+    }
+
     // Makes the power steady.
     pub(crate) fn power_up(&mut self)
         ensures { λ _. ⌜ (now (now (self .exit) .memory) ≡ now (now (self .entry) .memory)) × (now (self .exit) .kind ≡ now (self .entry) .kind) × (now (self .exit) .lost ≡ now (self .entry) .lost) × (now (self .exit) .supply ≡ Supply.Steady) ⌝ }
@@ -274,8 +288,7 @@ pub impl Flash for Nand<'_> as NandFlash {
         ensures exact { λ r. ⌜ outcome r (now (now (self .exit) .memory)) (now (self .exit) .lost) (now (self .exit) .supply) ≡ nand-arm (now (now (self .entry) .memory)) (now (self .entry) .lost) (now (self .entry) .supply) steps fault ⌝ }
         ensures same { λ _. ⌜ now (self .exit) .kind ≡ now (self .entry) .kind ⌝ }
     {
-        self.supply = self.supply.arm(steps, fault)?;
-        Ok(())
+        self.rearm(steps, fault)
     }
 
     fn restart(&mut self)
