@@ -1,43 +1,24 @@
 -- What the code of a NOR chip does to its memory is what is meant.
-use mathlib.Core.Path.{_≡_, refl, sym, _∙_, ap}
-use mathlib.Core.Bool.{Bool, true, false, cond}
+use mathlib.Core.Path.{_≡_, sym, _∙_, ap}
 use mathlib.Core.List.{List, _++_}
-use Prim.Native.Nat.{ℕ, _+_, _-_, _*_, _/_, _<_, _≤_}
+use Prim.Native.Nat.{ℕ, _+_, _-_, _*_, _/_, _≤_}
 use native.Mathlib.Omega.{arith}
-use lib.ListN.{length, take, drop, replicate, length-take, length-drop, length-append, length-map, length-replicate}
-use lib.Dec.{ltb}
+use lib.ListN.{length, take, drop, replicate, length-take, length-drop, length-map, length-replicate}
 use borrow.Rule.Slice.PartMut.{putMid}
-use Rattle.std.proofs.shelf.Lists.{drop-drop, take-take, drop-take}
-use Rattle.std.proofs.shelf.Tests.{ltb-true}
 use Rattle.std.specs.declared.option.Option.the-variants.{Some, None}
 use Rattle.std.specs.declared.result.Result.the-variants.{Ok, Err}
 use Rattle.flash.specs.declared.refusal.Refusal.{Refusal}
 use Rattle.flash.specs.declared.refusal.Refusal.the-variants.{NoPower}
-use Rattle.flash.specs.Cells.{over}
 use Rattle.flash.specs.Refused.{program-refusal, erase-refusal}
 use Rattle.devices.specs.declared.supply.Cut.{Cut}
 use Rattle.devices.specs.declared.supply.Supply.{Supply}
-use Rattle.devices.specs.declared.supply.Supply.the-variants.{Steady, Armed, Off}
+use Rattle.devices.specs.declared.supply.Supply.the-variants.{Off}
 use Rattle.devices.specs.Steps.{spent}
 use Rattle.devices.specs.Memory.{ored, outcome}
-use Rattle.devices.specs.Nor.{SIZE, nor, cut-run, nor-program, nor-erase}
-
-not-err : {X : Type 0} (x : X) (c : Cut) → Err c ≡ Ok x → ⊥
-not-err x c h = let z : _≡_ {A = ℕ} 0 1 = cc in omega arith
-
--- the power fails before all the steps are made
-pub cut-before : (s : Supply) (n : ℕ) (c : Cut) → Err c ≡ spent s n → c .after < n
-cut-before Steady n c h = absurd (not-err Steady c h)
-cut-before (Armed left j) n c h = go (ltb left n) refl h
-  where
-    go : (t : Bool) → ltb left n ≡ t → Err c ≡ cond t (Err (record { after = left; fault = j })) (Ok (Armed (left - n) j)) → c .after < n
-    go true t h = let e : c .after ≡ left = cc in let l = ltb-true left n t in omega arith
-    go false t h = absurd (not-err (Armed (left - n) j) c h)
-cut-before Off n c h = absurd (not-err Off c h)
-
--- a write to the part of k bytes at a
-pub put-over : (a k : ℕ) (xs ys : List ℕ) → length ys ≡ k → putMid a k xs ys ≡ over xs a ys
-put-over a k xs ys e = cc (drop-drop k a xs)
+use Rattle.devices.specs.Nor.{SIZE, nor, nor-program, nor-erase}
+use Rattle.devices.proofs.Cuts.{cut-run-is, cut-run-long}
+use Rattle.devices.proofs.Rows.{put-over}
+use Rattle.devices.proofs.Supplies.{cut-before}
 
 -- ─── program ───
 
@@ -57,20 +38,12 @@ module _ (mem : List ℕ) (s : Supply) (b o : ℕ) (run : List ℕ) where
     pub lay-cut : (c : Cut) (ys bs : List ℕ) (end : ℕ) → Err c ≡ spent s (length run / 4) → end ≡ (c .after + 1) * 4
         → bs ≡ take end run → ys ≡ take (length bs - 4) bs ++ ored (c .fault) (drop (length bs - 4) bs)
         → outcome (Err NoPower) (putMid from (from + end - from) mem ys) Off ≡ nor-program mem s b o run
-    unfolding nor-program SIZE cut-run
+    unfolding nor-program SIZE
     lay-cut c ys bs end h ee eb ey =
-        let le : end ≤ length run = omega (arith, cut-before s (length run / 4) c h) in
-        let lb : length bs ≡ end = ap length eb ∙ simp length-take (omega arith) in
-        let w : length bs - 4 ≡ c .after * 4 = omega arith in
-        let e4 : c .after * 4 + 4 ≡ end = omega arith in
-        let front : take (c .after * 4) bs ≡ take (c .after * 4) run = ap (take (c .after * 4)) eb ∙ take-take (c .after * 4) end run (omega arith) in
-        let back : drop (c .after * 4) bs ≡ take 4 (drop (c .after * 4) run) =
-        ap (drop (c .after * 4)) (eb ∙ ap (λ n. take n run) (sym e4)) ∙ drop-take (c .after * 4) 4 run in
-        let is-cut : ys ≡ cut-run c run =
-        ey ∙ (ap (λ n. take n bs ++ ored (c .fault) (drop n bs)) w ∙ (ap (λ (l : List ℕ). l ++ ored (c .fault) (drop (c .after * 4) bs)) front
-        ∙ ap (λ (l : List ℕ). take (c .after * 4) run ++ ored (c .fault) l) back)) in
-        let long : length ys ≡ from + end - from =
-        ap length ey ∙ simp (length-append, length-take, length-map, length-drop) (omega arith) in
+        let e4 : end ≡ c .after * 4 + 4 = omega arith in
+        let le : c .after * 4 + 4 ≤ length run = omega (arith, cut-before s (length run / 4) c h) in
+        let is-cut = cut-run-is 4 c run le ys bs end e4 eb ey in
+        let long : length ys ≡ from + end - from = ap length is-cut ∙ (cut-run-long 4 c run le ∙ omega arith) in
         rw (none, ← h) (ap (λ (m : List ℕ). outcome (Err NoPower) m Off) (put-over from (from + end - from) mem ys long ∙ rw (is-cut, is)))
 
 -- ─── erase ───

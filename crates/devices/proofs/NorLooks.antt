@@ -1,42 +1,25 @@
 -- What a NOR chip answers to a look and to a read.
 use mathlib.Core.Path.{_≡_, refl, sym, _∙_, ap}
-use mathlib.Core.Bool.{true}
-use mathlib.Core.List.{List, [], _∷_}
-use Prim.Native.Nat.{ℕ, _+_, _-_, _*_, _≤_}
+use mathlib.Core.List.{List}
+use Prim.Native.Nat.{ℕ, _+_, _-_, _*_}
 use native.Mathlib.Omega.{arith}
 use lib.ListN.{length, take, drop}
-use Rattle.std.proofs.shelf.Lists.{drop-drop, take-take, drop-take}
 use Rattle.std.specs.declared.option.Option.the-variants.{Some, None}
 use Rattle.std.specs.declared.result.Result.the-variants.{Ok, Err}
 use Rattle.flash.specs.declared.refusal.Refusal.{Refusal}
 use Rattle.flash.specs.Cells.{cells}
-use Rattle.flash.specs.Refused.{place-refusal, readable, part}
+use Rattle.flash.specs.Refused.{place-refusal}
 use Rattle.flash.specs.Rules as rules
 use Rattle.flash.specs.Rules.{Fetched, mark-answer}
 use Rattle.flash.proofs.Refusals.{place-inside, read-by-place, read-past-place}
 use Rattle.devices.specs.declared.supply.Supply.{Supply}
 use Rattle.devices.specs.Memory.{part-of}
 use Rattle.devices.specs.Nor.{SIZE, mark-of, nor}
-use Rattle.devices.proofs.NorMeets.{map-take, map-drop}
+use Rattle.devices.proofs.Rows.{in-block, readable-cells, part-cells}
 
 pub mark-seen : (mem : List ℕ) (s : Supply) (b r : ℕ) → place-refusal (nor mem s) b 0 0 ≡ None → r ≡ mark-of (part-of SIZE mem b) → Ok r ≡ mark-answer (nor mem s) b
 unfolding nor
 mark-seen mem s b r none e = rw (none, e)
-
--- a part of a block is a part of the memory
-in-block : (size : ℕ) (mem : List ℕ) (b o n : ℕ) → o + n ≤ size → take n (drop (b * size + o) mem) ≡ take n (drop o (part-of size mem b))
-in-block size mem b o n h =
-    let X = drop (b * size) mem in
-    let e : o + (size - o) ≡ size = omega arith in
-    let q : drop o (take size X) ≡ take (size - o) (drop o X) = ap (λ m. drop o (take m X)) (sym e) ∙ drop-take o (size - o) X in
-    ap (take n) (sym (drop-drop o (b * size) mem)) ∙ sym (ap (take n) q ∙ take-take n (size - o) (drop o X) (omega arith))
-
-readable-cells : (xs : List ℕ) → readable (cells xs) ≡ true
-readable-cells [] = refl
-readable-cells (x ∷ xs) = readable-cells xs
-
-part-cells : (xs : List ℕ) (o n : ℕ) → part (cells xs) o n ≡ cells (take n (drop o xs))
-part-cells xs o n = ap (take n) (sym (map-drop o xs)) ∙ sym (map-take n (drop o xs))
 
 module _ (mem : List ℕ) (s : Supply) (b o : ℕ) (old : List ℕ) where
   pub fetch-refused : (e : Refusal) → place-refusal (nor mem s) b o (length old) ≡ Some e → Fetched (nor mem s) b o old (Err e) old

@@ -1,12 +1,12 @@
 -- What a NOR chip means: it is sane at all times, and new bytes in one block change that block alone.
 use mathlib.Core.Path.{_≡_, refl, sym, _∙_, ap}
 use mathlib.Core.Bool.{cond}
-use mathlib.Core.List.{List, [], _∷_}
-use Prim.Native.Nat.{ℕ, zero, suc, _+_, _-_, _*_, _/_, _%_, _^_, _<_, _≤_, min}
+use mathlib.Core.List.{List}
+use Prim.Native.Nat.{ℕ, _+_, _*_, _/_, _%_, _^_, _<_, _≤_, min}
 use native.Mathlib.Omega.{arith}
 use lib.ListN.{length, getD, length-map}
-use Rattle.flash.specs.Cells.{Cell, byte, lost, cells, over}
-use Rattle.flash.specs.Meaning.{Meaning, Sane, Power, with-at}
+use Rattle.flash.specs.Cells.{byte, lost, cells, over}
+use Rattle.flash.specs.Meaning.{Sane, with-at}
 use Rattle.flash.proofs.Over.{by-place, over-length}
 use Rattle.devices.specs.declared.supply.Supply.{Supply}
 use Rattle.devices.specs.Steps.{power-of}
@@ -14,7 +14,9 @@ use Rattle.devices.specs.Memory.{part-of}
 use Rattle.devices.specs.Nor.{SIZE, mark-of, nor}
 use Rattle.devices.proofs.Bytes.{used-le}
 use Rattle.devices.proofs.Blocks.{part-full, part-other, part-same}
-use Rattle.devices.proofs.NorMarks.{unused, used-mark, mark-high}
+use Rattle.devices.proofs.Extents.{unused}
+use Rattle.devices.proofs.NorMarks.{used-mark, mark-high}
+use Rattle.devices.proofs.Rows.{not-lost, getD-cells, changed}
 
 pub fits-of : (n b : ℕ) → b < min (n / SIZE) 16 → b * SIZE + SIZE ≤ n
 unfolding SIZE
@@ -27,14 +29,6 @@ SIZE-pages = refl
 SIZE-small : SIZE < 2 ^ 32
 unfolding SIZE
 SIZE-small = omega arith
-
-not-lost : (n : ℕ) → byte n ≡ lost → ⊥
-not-lost n e = let z : _≡_ {A = ℕ} 0 1 = cc in omega arith
-
-getD-cells : (xs : List ℕ) (i : ℕ) → i < length xs → getD (cells xs) i lost ≡ byte (getD xs i 0)
-getD-cells [] i h = absurd (omega arith)
-getD-cells (x ∷ xs) zero h = refl
-getD-cells (x ∷ xs) (suc i) h = getD-cells xs i (omega arith)
 
 pub nor-sane : (mem : List ℕ) (s : Supply) → Sane (nor mem s)
 unfolding nor
@@ -74,19 +68,6 @@ nor-sane mem s = record {
     blank-behind b i there low h =
         let l : i < length (part-of SIZE mem b) = omega (arith, full b there) in
         getD-cells (part-of SIZE mem b) i l ∙ ap byte (unused (part-of SIZE mem b) i (omega (arith, used-mark (part-of SIZE mem b))) l)
-
--- m, with xs in the block b, k for its mark, and p for the power
-unfoldable pub changed : Meaning → ℕ → List Cell → ℕ → Power → Meaning
-changed m b xs k p = record {
-  blocks = m .blocks;
-  size = m .size;
-  page = m .page;
-  batch = m .batch;
-  shown = with-at (m .shown) b xs;
-  settled = with-at (m .settled) b xs;
-  mark = with-at (m .mark) b k;
-  power = p;
-}
 
 -- the meaning once the bytes ys were laid at the offset o of the block b
 module _ (mem ys : List ℕ) (b o : ℕ) (inside : o + length ys ≤ SIZE) (fits : b * SIZE + SIZE ≤ length mem) where

@@ -1,13 +1,11 @@
 -- The calls of a NOR chip keep the rules of a flash.
 use mathlib.Core.Path.{_≡_, refl, sym, _∙_, ap}
-use mathlib.Core.Bool.{Bool, true, false, cond}
-use mathlib.Core.List.{List, [], _∷_, _++_, map-append, append-assoc, append-nil}
-use Prim.Native.Nat.{ℕ, zero, suc, _+_, _-_, _*_, _/_, _%_, _≤_}
+use mathlib.Core.List.{List, _++_, map-append}
+use Prim.Native.Nat.{ℕ, _+_, _*_, _/_, _%_, _≤_}
 use native.Mathlib.Nat.{add-zero}
 use native.Mathlib.Omega.{arith}
-use lib.Dec.{ltb}
-use lib.ListN.{length, take, drop, replicate, length-take, length-drop, length-append, length-map, length-replicate, take-append-drop}
-use Rattle.std.proofs.shelf.Lists.{take-at, drop-all}
+use lib.ListN.{length, take, drop, replicate, length-take, length-drop, length-map, length-replicate}
+use Rattle.std.proofs.shelf.Lists.{take-map, drop-map}
 use Rattle.std.specs.declared.option.Option.{Option}
 use Rattle.std.specs.declared.option.Option.the-variants.{Some, None}
 use Rattle.std.specs.declared.result.Result.{Result}
@@ -15,7 +13,7 @@ use Rattle.std.specs.declared.result.Result.the-variants.{Ok, Err}
 use Rattle.flash.specs.declared.refusal.Refusal.{Refusal}
 use Rattle.flash.specs.declared.refusal.Refusal.the-variants.{NoPower}
 use Rattle.flash.specs.Cells.{Cell, byte, cells, blank, over}
-use Rattle.flash.specs.Meaning.{armed, off, with-at}
+use Rattle.flash.specs.Meaning.{off, with-at}
 use Rattle.flash.specs.Refused.{program-refusal, erase-refusal, arm-refusal}
 use Rattle.flash.specs.Rules as rules
 use Rattle.flash.specs.Rules.{programmed, broken, erased, powered, restarted, Programmed, Erased, Restarted, Passed, Failed}
@@ -23,79 +21,15 @@ use Rattle.flash.proofs.Refusals.{accepted, place-inside}
 use Rattle.devices.specs.declared.supply.Cut.{Cut}
 use Rattle.devices.specs.declared.supply.Supply.{Supply}
 use Rattle.devices.specs.declared.supply.Supply.the-variants.{Steady, Armed, Off}
-use Rattle.devices.specs.Steps.{spent, arming, power-of}
-use Rattle.devices.specs.Memory.{part-of, used, ored, Outcome, outcome}
-use Rattle.devices.specs.Nor.{SIZE, mark-of, nor, cut-run, laid, wiped, unless, nor-program, nor-erase, nor-arm}
+use Rattle.devices.specs.Steps.{spent, arming}
+use Rattle.devices.specs.Memory.{part-of, used, ored, cut-run, Outcome, outcome}
+use Rattle.devices.specs.Nor.{SIZE, mark-of, nor, laid, wiped, unless, nor-program, nor-erase, nor-arm}
 use Rattle.devices.proofs.Blocks.{part-full}
-use Rattle.devices.proofs.NorCalls.{cut-before}
+use Rattle.devices.proofs.Cuts.{cut-page-long, cut-run-long}
 use Rattle.devices.proofs.NorMarks.{mark-blank, used-mark, mark-rises, mark-within-run}
-use Rattle.devices.proofs.NorMeaning.{changed, nor-over, fits-of}
-
--- ─── the supply ───
-
-not-ok : {X Y : Type 0} (x : X) (y : Y) → Ok x ≡ Err y → ⊥
-not-ok x y h = let z : _≡_ {A = ℕ} 0 1 = cc in omega arith
-
--- steps that succeed leave the power as it is
-spent-power : (s s′ : Supply) (n : ℕ) → Ok s′ ≡ spent s n → power-of s′ ≡ power-of s
-spent-power Steady s′ n h = let e : s′ ≡ Steady = cc in rw e
-spent-power (Armed left j) s′ n h = go (ltb left n) _ h
-  where
-    go : (t : Bool) (c : Cut) → Ok s′ ≡ cond t (Err c) (Ok (Armed (left - n) j)) → power-of s′ ≡ power-of (Armed left j)
-    go true c h = absurd (not-ok s′ c h)
-    go false c h = let e : s′ ≡ Armed (left - n) j = cc in rw e
-spent-power Off s′ n h = let e : s′ ≡ Off = cc in rw e
-
--- only an armed supply fails
-cut-armed : (s : Supply) (n : ℕ) (c : Cut) → Err c ≡ spent s n → power-of s ≡ armed
-cut-armed Steady n c h = absurd (not-ok Steady c (sym h))
-cut-armed (Armed left j) n c h = refl
-cut-armed Off n c h = absurd (not-ok Off c (sym h))
-
--- ─── cells ───
-
-pub map-take : (n : ℕ) (xs : List ℕ) → cells (take n xs) ≡ take n (cells xs)
-map-take zero xs = refl
-map-take (suc n) [] = refl
-map-take (suc n) (x ∷ xs) = ap (λ (r : List Cell). byte x ∷ r) (map-take n xs)
-
-pub map-drop : (n : ℕ) (xs : List ℕ) → cells (drop n xs) ≡ drop n (cells xs)
-map-drop zero xs = refl
-map-drop (suc n) [] = refl
-map-drop (suc n) (x ∷ xs) = map-drop n xs
-
-cells-over : (xs run : List ℕ) (o : ℕ) → cells (over xs o run) ≡ over (cells xs) o (cells run)
-cells-over xs run o =
-    map-append byte (take o xs) _ ∙ (ap (λ (r : List Cell). cells (take o xs) ++ r) (map-append byte run _)
-    ∙ rw (map-take o xs, map-drop (o + length run) xs, length-map run byte))
-
-cells-blank : (n : ℕ) → cells (replicate n 255) ≡ blank n
-cells-blank zero = refl
-cells-blank (suc n) = ap (λ (r : List Cell). byte 255 ∷ r) (cells-blank n)
-
--- what is settled once whole batches were laid is what is shown
-settled-is : (xs ys : List Cell) (o e : ℕ) → e ≡ o + length ys → e ≤ length xs → take e (over xs o ys) ++ drop e xs ≡ over xs o ys
-settled-is xs ys o e p h =
-    let l : length (take o xs ++ ys) ≡ e = simp (length-append, length-take) (omega arith) in
-    let q : over xs o ys ≡ (take o xs ++ ys) ++ drop (o + length ys) xs = sym (append-assoc (take o xs) ys (drop (o + length ys) xs)) in
-    ap (λ (r : List Cell). take e r ++ drop e xs) q
-    ∙ rw (take-at (take o xs ++ ys) (drop (o + length ys) xs) e l, p) (append-assoc (take o xs) ys (drop (o + length ys) xs))
-
--- the first w bytes of a run, and then sp in place of those behind them
-cut-split : (xs run sp : List ℕ) (o w : ℕ) → o ≤ length xs → w ≤ length run
-    → over xs o (take w run ++ sp) ≡ take (o + w) (over xs o run) ++ (sp ++ drop (o + w + length sp) xs)
-cut-split xs run sp o w h l =
-    let P = take o xs in
-    let W = take w run in
-    let lPW : length (P ++ W) ≡ o + w = simp (length-append, length-take) (omega arith) in
-    let n : o + length (W ++ sp) ≡ o + w + length sp = simp (length-append, length-take) (omega arith) in
-    let right : take (o + w) (over xs o run) ≡ P ++ W =
-    ap (λ (r : List ℕ). take (o + w) (P ++ (r ++ drop (o + length run) xs))) (sym (take-append-drop w run))
-    ∙ (ap (λ (r : List ℕ). take (o + w) (P ++ r)) (append-assoc W (drop w run) (drop (o + length run) xs))
-    ∙ (ap (take (o + w)) (sym (append-assoc P W (drop w run ++ drop (o + length run) xs))) ∙ take-at (P ++ W) _ (o + w) lPW)) in
-    ap (λ m. P ++ ((W ++ sp) ++ drop m xs)) n
-    ∙ (ap (λ (r : List ℕ). P ++ r) (append-assoc W sp (drop (o + w + length sp) xs))
-    ∙ (sym (append-assoc P W (sp ++ drop (o + w + length sp) xs)) ∙ ap (λ (r : List ℕ). r ++ (sp ++ drop (o + w + length sp) xs)) (sym right)))
+use Rattle.devices.proofs.NorMeaning.{nor-over, fits-of}
+use Rattle.devices.proofs.Rows.{over-whole, settled-is, cut-split, cells-over, cells-blank, part-cells, changed}
+use Rattle.devices.proofs.Supplies.{spent-power, cut-armed, cut-before}
 
 -- ─── program ───
 
@@ -149,7 +83,7 @@ module _ (mem : List ℕ) (s : Supply) (b o : ℕ) (run : List ℕ) (none : prog
             });
       }
 
-  program-failed : (c : Cut) → Err c ≡ spent s (length run / 4) → Failed (nor mem s) b o run (nor (over mem (b * SIZE + o) (cut-run c run)) Off)
+  program-failed : (c : Cut) → Err c ≡ spent s (length run / 4) → Failed (nor mem s) b o run (nor (over mem (b * SIZE + o) (cut-run 4 c run)) Off)
   unfolding nor changed broken cut-run B
   program-failed c h =
       let f = fit in
@@ -157,17 +91,17 @@ module _ (mem : List ℕ) (s : Supply) (b o : ℕ) (run : List ℕ) (none : prog
       let sp = ored (c .fault) (take 4 (drop w run)) in
       let lt = cut-before s (length run / 4) c h in
       let lw : w + 4 ≤ length run = omega arith in
-      let l4 : length sp ≡ 4 = length-map _ _ ∙ simp (length-take, length-drop) (omega arith) in
-      let lc : length (cut-run c run) ≡ w + 4 = omega (arith, length-append (take w run) sp, length-take w run, l4) in
+      let l4 : length sp ≡ 4 = cut-page-long 4 c run lw in
+      let lc : length (cut-run 4 c run) ≡ w + 4 = cut-run-long 4 c run lw in
       let at4 : ((o + w) / 4) * 4 ≡ o + w = omega (arith, f .page-o) in
-      let split : over B o (cut-run c run) ≡ take (o + w) (over B o run) ++ (sp ++ drop (o + w + 4) B) =
+      let split : over B o (cut-run 4 c run) ≡ take (o + w) (over B o run) ++ (sp ++ drop (o + w + 4) B) =
       cut-split B run sp o w (omega (arith, full, f .inside)) (omega arith) ∙ ap (λ n. take (o + w) (over B o run) ++ (sp ++ drop (o + w + n) B)) l4 in
-      let is : cells (over B o (cut-run c run)) ≡ take (o + w) (over (cells B) o (cells run)) ++ (cells sp ++ drop (o + w + 4) (cells B)) =
+      let is : cells (over B o (cut-run 4 c run)) ≡ take (o + w) (over (cells B) o (cells run)) ++ (cells sp ++ drop (o + w + 4) (cells B)) =
       ap cells split ∙ (map-append byte (take (o + w) (over B o run)) _ ∙ (ap (λ (r : List Cell). cells (take (o + w) (over B o run)) ++ r) (map-append byte sp _)
-      ∙ rw (map-take (o + w) (over B o run), cells-over B run o, map-drop (o + w + 4) B))) in
+      ∙ rw (← take-map byte (o + w) (over B o run), cells-over B run o, ← drop-map byte (o + w + 4) B))) in
       record {
         armed-before = cut-armed s (length run / 4) c h;
-        left = cells (over B o (cut-run c run));
+        left = cells (over B o (cut-run 4 c run));
         torn = record {
           at = (o + w) / 4;
           concerned = rules.Concerned.takes (omega arith) (omega arith) (omega arith);
@@ -175,8 +109,8 @@ module _ (mem : List ℕ) (s : Supply) (b o : ℕ) (run : List ℕ) (none : prog
           is-spoilt = rules.Spoilt.bytes sp l4 refl;
           is = rw at4 is;
         };
-        marks = with-at (λ i. mark-of (part-of SIZE mem i)) b (mark-of (over B o (cut-run c run)));
-        is = nor-over mem (cut-run c run) b o (omega (arith, f .inside)) (f .fits) s Off;
+        marks = with-at (λ i. mark-of (part-of SIZE mem i)) b (mark-of (over B o (cut-run 4 c run)));
+        is = nor-over mem (cut-run 4 c run) b o (omega (arith, f .inside)) (f .fits) s Off;
       }
 
   pub goes : (x : Result Supply Cut) → x ≡ spent s (length run / 4)
@@ -204,9 +138,7 @@ module _ (mem : List ℕ) (s : Supply) (b : ℕ) (none : erase-refusal (nor mem 
 
   -- a whole block laid anew
   whole : (ys : List ℕ) → length ys ≡ SIZE → over (part-of SIZE mem b) 0 ys ≡ ys
-  whole ys l =
-      let n : length (part-of SIZE mem b) ≤ 0 + length ys = omega (arith, part-full SIZE mem b fits) in
-      ap (λ (r : List ℕ). ys ++ r) (drop-all (0 + length ys) (part-of SIZE mem b) n) ∙ append-nil ys
+  whole ys l = over-whole (part-of SIZE mem b) ys (l ∙ sym (part-full SIZE mem b fits))
 
   at-start : (ys : List ℕ) → over mem (b * SIZE) ys ≡ over mem (b * SIZE + 0) ys
   at-start ys = ap (λ n. over mem n ys) (sym (add-zero (b * SIZE)))
@@ -240,7 +172,7 @@ module _ (mem : List ℕ) (s : Supply) (b : ℕ) (none : erase-refusal (nor mem 
       worn i ys old e =
           rules.Spoilt.bytes (take 4 (drop (i * 4) ys))
           (simp (length-take, length-drop) (omega (arith, e, length-map ys byte)))
-          (ap (take 4) (sym (map-drop (i * 4) ys)) ∙ sym (map-take 4 (drop (i * 4) ys)))
+          (part-cells ys (i * 4) 4)
 
   pub clears : (x : Result Supply Cut) → x ≡ spent s 1
       → Erased (nor mem s) b (wiped mem (b * SIZE) x .answer) (nor (wiped mem (b * SIZE) x .mem) (wiped mem (b * SIZE) x .supply))

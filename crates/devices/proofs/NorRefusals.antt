@@ -2,7 +2,7 @@
 use mathlib.Core.Path.{_≡_, refl, sym, _∙_, ap}
 use mathlib.Core.Bool.{true, false}
 use mathlib.Core.List.{List}
-use Prim.Native.Nat.{ℕ, _+_, _-_, _*_, _/_, _%_, _<_, _≤_}
+use Prim.Native.Nat.{ℕ, _+_, _-_, _*_, _/_, _%_, _<_, _≤_, min}
 use native.Mathlib.Omega.{arith}
 use lib.ListN.{length, take, drop, length-take}
 use Rattle.std.proofs.shelf.Tests.{ne-eqb, eq-eqb, lt-ltb, le-ltb}
@@ -12,27 +12,22 @@ use Rattle.flash.specs.declared.refusal.Refusal.the-variants.{NoPower, Outside,
 use Rattle.flash.specs.Refused.{is-off, first, place-refusal, program-refusal, other-held}
 use Rattle.flash.proofs.Refusals.{place-inside, program-by-place, program-past-place, none-other, of-program}
 use Rattle.devices.specs.declared.supply.Supply.{Supply}
-use Rattle.devices.specs.declared.supply.Supply.the-variants.{Steady, Armed, Off}
+use Rattle.devices.specs.declared.supply.Supply.the-variants.{Off}
 use Rattle.devices.specs.Steps.{power-of}
-use Rattle.devices.specs.Memory.{part-of, used, Within}
-use Rattle.devices.specs.Nor.{SIZE, mark-of, nor, leaves}
+use Rattle.devices.specs.Memory.{part-of, used, leaves, Within}
+use Rattle.devices.specs.Nor.{SIZE, mark-of, nor}
 use Rattle.devices.proofs.Bytes.{used-le}
-
-pub on-of : (s : Supply) → (s ≡ Off → ⊥) → is-off (power-of s) ≡ false
-on-of Steady h = refl
-on-of (Armed left j) h = refl
-on-of Off h = absurd (h refl)
 
 module _ (mem : List ℕ) (s : Supply) (b o n : ℕ) where
   pub place-off : s ≡ Off → Some NoPower ≡ place-refusal (nor mem s) b o n
   unfolding nor place-refusal
   place-off e = rw e
 
-  pub place-out : is-off (power-of s) ≡ false → true ≡ leaves (length mem) b o n → Some Outside ≡ place-refusal (nor mem s) b o n
+  pub place-out : is-off (power-of s) ≡ false → true ≡ leaves (min (length mem / 4096) 16) 4096 b o n → Some Outside ≡ place-refusal (nor mem s) b o n
   unfolding nor place-refusal SIZE
   place-out on l = rw (on, ← l)
 
-  pub place-none : is-off (power-of s) ≡ false → false ≡ leaves (length mem) b o n → None ≡ place-refusal (nor mem s) b o n
+  pub place-none : is-off (power-of s) ≡ false → false ≡ leaves (min (length mem / 4096) 16) 4096 b o n → None ≡ place-refusal (nor mem s) b o n
   unfolding nor place-refusal SIZE
   place-none on l = rw (on, ← l)
 
@@ -62,7 +57,7 @@ module _ (mem : List ℕ) (s : Supply) (b o n : ℕ) where
     program-none p q h = sym (left-over ∙ rw (eq-eqb (o % 4) 0 p, eq-eqb (n % 4) 0 q, le-ltb o (mark-of (part-of SIZE mem b)) h, nothing-held))
 
 -- what is not refused lies in the memory
-pub within : (mem : List ℕ) (s : Supply) (b o n : ℕ) → None ≡ place-refusal (nor mem s) b o n → Within (length mem) b o n (b * 4096 + o)
+pub within : (mem : List ℕ) (s : Supply) (b o n : ℕ) → None ≡ place-refusal (nor mem s) b o n → Within 4096 (length mem) b o n (b * 4096 + o)
 unfolding nor SIZE
 within mem s b o n e =
     let i = place-inside (nor mem s) b o n (sym e) in

@@ -4,10 +4,10 @@
 -- nor-program     a program, whole: what it answers, and the memory and the steps left after it
 -- nor-erase, nor-arm   likewise
 -- holds-blocks    whether so many bytes are 4 to 16 whole blocks
-use mathlib.Core.Bool.{Bool, true, false, cond}
-use mathlib.Core.List.{List, _++_}
-use Prim.Native.Nat.{ℕ, _+_, _-_, _*_, _/_, _%_, min}
-use lib.Dec.{eqb, ltb, leb}
+use mathlib.Core.Bool.{Bool, false, cond}
+use mathlib.Core.List.{List}
+use Prim.Native.Nat.{ℕ, _+_, _*_, _/_, _%_, min}
+use lib.Dec.{eqb, leb}
 use lib.ListN.{length, take, drop, replicate}
 use Rattle.std.specs.declared.option.Option.{Option}
 use Rattle.std.specs.declared.option.Option.the-variants.{Some, None}
@@ -22,7 +22,7 @@ use Rattle.devices.specs.declared.supply.Cut.{Cut}
 use Rattle.devices.specs.declared.supply.Supply.{Supply}
 use Rattle.devices.specs.declared.supply.Supply.the-variants.{Off}
 use Rattle.devices.specs.Steps.{spent, arming, power-of}
-use Rattle.devices.specs.Memory.{part-of, used, ored, Outcome, outcome}
+use Rattle.devices.specs.Memory.{part-of, used, ored, cut-run, Outcome, outcome}
 
 -- the bytes of a block; shut, so that no proof counts to it
 unfoldable pub SIZE : ℕ
@@ -44,18 +44,10 @@ nor mem s = record {
   power = power-of s;
 }
 
--- whether n bytes at the offset o of the block b leave the block, or a chip of len bytes
-abbrev pub leaves : ℕ → ℕ → ℕ → ℕ → Bool
-leaves len b o n = cond (ltb b (min (len / 4096) 16)) (ltb 4096 (o + n)) true
-
--- what reaches the chip of a run whose page after the first ones fails: these pages, and that one with the fault
-unfoldable pub cut-run : Cut → List ℕ → List ℕ
-cut-run c run = take (c .after * 4) run ++ ored (c .fault) (take 4 (drop (c .after * 4) run))
-
 -- a program of whole pages from the byte a of the memory on: each page is a step
 abbrev pub laid : List ℕ → ℕ → List ℕ → Result Supply Cut → Outcome
 laid mem a run (Ok s) = outcome (Ok tt) (over mem a run) s
-laid mem a run (Err c) = outcome (Err NoPower) (over mem a (cut-run c run)) Off
+laid mem a run (Err c) = outcome (Err NoPower) (over mem a (cut-run 4 c run)) Off
 
 -- an erase of the block at the byte a of the memory: one step
 abbrev pub wiped : List ℕ → ℕ → Result Supply Cut → Outcome

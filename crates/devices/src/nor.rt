@@ -8,8 +8,8 @@ ghost use Rattle.flash.specs.Refused.{place-refusal, program-refusal};
 ghost use Rattle.flash.specs.Meaning.{Sane};
 ghost use Rattle.flash.specs.Rules.{answered, Programmed, Erased, Armed, Restarted};
 ghost use denote.Ref.{now};
-ghost use Rattle.devices.specs.Memory.{part-of, outcome, Within};
-ghost use Rattle.devices.specs.Nor.{SIZE, mark-of, nor, leaves, holds-blocks, nor-program, nor-erase, nor-arm};
+ghost use Rattle.devices.specs.Memory.{part-of, leaves, outcome, Within};
+ghost use Rattle.devices.specs.Nor.{SIZE, mark-of, nor, holds-blocks, nor-program, nor-erase, nor-arm};
 use crate::memory::reach;
 use crate::memory::spoil;
 use crate::memory::tear;
@@ -63,7 +63,7 @@ impl Nor<'_> {
 
     // Whether n bytes at a place leave the block, or the chip.
     pub(crate) fn leaves(&self, at: Place, n: usize) -> bool
-        ensures { λ r. ⌜ r ≡ leaves (length (now (now (self .entry) .memory))) (at .block) (at .offset) n ⌝ }
+        ensures { λ r. ⌜ r ≡ leaves (min (length (now (now (self .entry) .memory)) / 4096) 16) 4096 (at .block) (at .offset) n ⌝ }
     {
         if at.block >= self.blocks() {
             return true;
@@ -77,7 +77,7 @@ impl Nor<'_> {
     // Where in the memory n bytes at a place begin, or why a call for them is refused.
     pub(crate) fn locate(&self, at: Place, n: usize) -> Result<usize, Refusal>
         ensures value { λ r. ⌜ r ≡ answered (place-refusal (nor (now (now (self .entry) .memory)) (now (self .entry) .supply)) (at .block) (at .offset) n) (at .block * 4096 + at .offset) ⌝ }
-        ensures within { λ r. ⌜ Cases r (λ from. Within (length (now (now (self .entry) .memory))) (at .block) (at .offset) n from) (λ _. Unit {0}) ⌝ }
+        ensures within { λ r. ⌜ Cases r (λ from. Within 4096 (length (now (now (self .entry) .memory))) (at .block) (at .offset) n from) (λ _. Unit {0}) ⌝ }
     {
         if let Supply::Off = self.supply {
             return Err(Refusal::NoPower);
@@ -100,7 +100,7 @@ impl Nor<'_> {
     // Where in the memory a program of n bytes begins, or why it is refused.
     pub(crate) fn locate_blank(&self, at: Place, n: usize) -> Result<usize, Refusal>
         ensures value { λ r. ⌜ r ≡ answered (program-refusal (nor (now (now (self .entry) .memory)) (now (self .entry) .supply)) (at .block) (at .offset) n) (at .block * 4096 + at .offset) ⌝ }
-        ensures within { λ r. ⌜ Cases r (λ from. Within (length (now (now (self .entry) .memory))) (at .block) (at .offset) n from) (λ _. Unit {0}) ⌝ }
+        ensures within { λ r. ⌜ Cases r (λ from. Within 4096 (length (now (now (self .entry) .memory))) (at .block) (at .offset) n from) (λ _. Unit {0}) ⌝ }
     {
         let from = self.locate(at, n)?;
         if at.offset % PAGE != 0 || n % PAGE != 0 {
@@ -126,12 +126,9 @@ impl Nor<'_> {
             }
             Err(cut) => {
                 let end = (cut.after + 1) * PAGE;
-                tear(
-                    &mut self.memory[from..from + end],
-                    &bytes[0..end],
-                    PAGE,
-                    cut.fault,
-                );
+                let part = &mut self.memory[from..from + end];
+                part.copy_from_slice(&bytes[0..end]);
+                tear(part, PAGE, cut.fault);
                 self.supply = Supply::Off;
                 Err(Refusal::NoPower)
             }

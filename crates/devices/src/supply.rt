@@ -20,7 +20,7 @@ pub struct Cut {
 
 impl Supply {
     // The supply after so many steps, or the failure in one of them.
-    pub(crate) fn spend(self, steps: usize) -> Result<Supply, Cut>
+    pub fn spend(self, steps: usize) -> Result<Supply, Cut>
         ensures { λ r. ⌜ r ≡ spent self steps ⌝ }
     {
         match self {
@@ -40,7 +40,7 @@ impl Supply {
     }
 
     // The supply armed anew, which it cannot be without power.
-    pub(crate) fn arm(self, steps: usize, fault: u8) -> Result<Supply, Refusal>
+    pub fn arm(self, steps: usize, fault: u8) -> Result<Supply, Refusal>
         ensures { λ r. ⌜ r ≡ arming self steps fault ⌝ }
     {
         match self {

@@ -1,4 +1,4 @@
-use mathlib.Core.Path.{refl, ap}
+use mathlib.Core.Path.{refl, ap, _∙_}
 use native.Mathlib.Nat.{sub-zero}
 use lib.ListN.{take}
 use Rattle.std.proofs.shelf.Results.{err-from-errBy}
@@ -19,4 +19,4 @@ returns-in-Ok c =
 pub returns-in-Err : need.returns-in-Err
 returns-in-Err c =
     let w = c .in-Continue-from .ensures tt in
-    lay-cut _ _ _ _ _ _ (not-refused _ _ _ (w .value)) (w .within .0) (c .in-Err .cut) (c .tear .last .part) _ _ (c .in-Err .ensures tt) refl (ap (λ n. take n (c .args .bytes .now)) (sub-zero _)) (c .tear .ensures)
+    lay-cut _ _ _ _ _ _ (not-refused _ _ _ (w .value)) (w .within .0) (c .in-Err .cut) (c .tear .last .part) (c .copy-from-slice-in-Err .last .self) _ (c .in-Err .ensures tt) refl (c .copy-from-slice-in-Err .ensures .after ∙ ap (λ n. take n (c .args .bytes .now)) (sub-zero _)) (c .tear .ensures)

@@ -1,7 +1,8 @@
 use mathlib.Core.Path.{ap}
 use Prim.Native.Nat.{_+_, _*_}
 use Rattle.flash.specs.Rules.{answered}
-use Rattle.devices.proofs.NorRefusals.{on-of, place-off, place-out, place-none, within}
+use Rattle.devices.proofs.Supplies.{on-of}
+use Rattle.devices.proofs.NorRefusals.{place-off, place-out, place-none, within}
 use Rattle.devices.proofs.nor.Nor.locate.Needs as need
 
 pub returns-in-Off : need.returns-in-Off

@@ -1,0 +1,10 @@
+pub mod Flags
+pub mod ByPages
+pub mod Shown
+pub mod Readable
+pub mod NandRefusals
+pub mod NandLooks
+pub mod NandCalls
+pub mod NandMeaning
+pub mod NandMeets
+pub mod NandAnswers
