@@ -9,7 +9,7 @@ use Rattle.std.proofs.shelf.Lists.{take-append-drop, take-all}
 use Rattle.std.specs.declared.option.Option.the-variants.{None}
 use Rattle.std.specs.declared.result.Result.the-variants.{Ok, Err}
 use Rattle.flash.specs.Meaning.{Meaning, Sane}
-use Rattle.flash.specs.Refused.{first, program-refusal}
+use Rattle.flash.specs.Refused.{program-refusal}
 use Rattle.flash.specs.Rules.{Answer, Goes}
 use Rattle.flash.specs.declared.refusal.Refusal.{Refusal}
 use Rattle.flash.proofs.Batches.{mod-first}
@@ -33,7 +33,7 @@ module _ (k : ℕ) (bytes : List ℕ) (within : k ≤ length bytes) where
   pub back-long : length back ≡ length bytes - k
   back-long = simp (length-take, length-drop) (omega arith)
 
-  pub joined-is : front ++ back ≡ bytes
+  joined-is : front ++ back ≡ bytes
   joined-is =
       let z : k - 0 ≡ k = omega arith in
       rw (z, take-all (length bytes - k) (drop k bytes) (simp length-drop (omega arith))) (take-append-drop k bytes)
