@@ -10,7 +10,7 @@ use lib.ListN.{length, take, drop, getD, length-map}
 use Rattle.std.proofs.shelf.Lists.{take-append-drop}
 use Rattle.std.proofs.shelf.Tests.{cases-lt, cases-eq, true≢false}
 use Rattle.std.specs.declared.option.Option.the-variants.{None}
-use Rattle.flash.specs.Cells.{Cell, byte, lost, cells, blank, over}
+use Rattle.flash.specs.Cells.{Cell, byte, lost, cells, over}
 use Rattle.flash.specs.Meaning.{Meaning, Sane, with-at, mixed, shown-at}
 use Rattle.flash.specs.Refused.{other-held, program-refusal}
 use Rattle.flash.specs.Rules.{Answer, programmed, broken, Concerned, Passed, Failed, Goes, Programmed}

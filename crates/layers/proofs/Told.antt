@@ -9,7 +9,7 @@ use lib.ListN.{length, take, replicate}
 use Rattle.std.proofs.shelf.Tests.{true≢false}
 use Rattle.std.specs.declared.option.Option.the-variants.{None}
 use Rattle.std.specs.declared.result.Result.the-variants.{Ok}
-use Rattle.flash.specs.Cells.{blank, over}
+use Rattle.flash.specs.Cells.{over}
 use Rattle.flash.specs.Meaning.{Meaning, Sane, with-at}
 use Rattle.flash.specs.Refused.{program-refusal}
 use Rattle.flash.specs.Rules.{Answer, Passed, Goes, Programmed}
