@@ -3,6 +3,7 @@ pub mod Batches
 pub mod Chain
 pub mod Mixed
 pub mod Over
+pub mod Parts
 pub mod Refusals
 pub mod Runs
 pub mod Settled

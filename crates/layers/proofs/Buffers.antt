@@ -6,13 +6,13 @@ use native.Mathlib.Nat.{zero-mod}
 use lib.ListN.{length, take, replicate}
 use Rattle.std.specs.declared.option.Option.the-variants.{Some, None}
 use Rattle.std.specs.declared.result.Result.the-variants.{Ok, Err}
-use Rattle.flash.specs.Cells.{blank}
 use Rattle.flash.specs.Meaning.{Meaning, Sane}
-use Rattle.flash.specs.Refused.{first, program-refusal}
+use Rattle.flash.specs.Refused.{program-refusal}
 use Rattle.flash.specs.Rules.{Answer, Programmed}
 use Rattle.flash.specs.declared.place.Place.{Place}
 use Rattle.flash.specs.declared.refusal.Refusal.{Refusal}
 use Rattle.flash.proofs.Chain.{chain-first, chain-failed}
+use Rattle.flash.proofs.Parts.{front, back, split-first, split-rest, split-then, split-failed, nothing-rest, nothing-then}
 use Rattle.layers.specs.Batch.{turn}
 use Rattle.layers.specs.Buffered.{buffered, means, sound, accepts, laid, near}
 use Rattle.layers.specs.declared.buffer.State.the-variants.{Empty}
@@ -20,9 +20,9 @@ use Rattle.layers.specs.declared.buffer.Turn.the-variants.{Other, First, Here}
 use Rattle.layers.specs.declared.buffer.WriteBuffer.{WriteBuffer}
 use Rattle.layers.proofs.Moves.{full-long}
 use Rattle.layers.proofs.Sanity.{sane-buffered}
-use Rattle.layers.proofs.Split.{front, back, split-first, split-rest, split-then, split-failed, whole-words, room-words, nothing-rest, nothing-then}
 use Rattle.layers.proofs.Told.{tells-first, not-other, tells-here}
 use Rattle.layers.proofs.Turns.{turn-first}
+use Rattle.layers.proofs.Words.{whole-words, room-words}
 
 abbrev pub behind : Place → ℕ → Place
 behind at k = record { block = at .block; offset = at .offset + k }

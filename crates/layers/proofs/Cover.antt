@@ -9,7 +9,7 @@ use lib.ListN.{length, take, drop, getD, length-take, length-drop, length-map}
 use Rattle.std.proofs.shelf.Lists.{getD-map, ext-getD, getD-take, getD-drop}
 use Rattle.std.proofs.shelf.Tests.{cases-lt}
 use Rattle.flash.specs.Cells.{Cell, byte, lost, cells, over}
-use Rattle.flash.specs.Refused.{outside, part}
+use Rattle.flash.specs.Refused.{part}
 use Rattle.flash.proofs.Over.{over-length, over-below, over-in, over-above}
 
 module _ (xs : List Cell) (o n : ℕ) (fits : o + n ≤ length xs) where

@@ -59,7 +59,7 @@ module _ (m : Meaning) (bear : Bearing m) (b o : ℕ) where
     near-empty Empty h z = refl
     near-empty (Filling c s) f z = absurd (omega (arith, f .some))
 
-    pub near-shows : (st : State) → Holding m st held → Near st (m .batch) b o → b < m .blocks → start + m .batch ≤ m .size → m .mark b ≤ start
+    near-shows : (st : State) → Holding m st held → Near st (m .batch) b o → b < m .blocks → start + m .batch ≤ m .size → m .mark b ≤ start
         → (i : ℕ) → shows m st held i ≡ with-at (m .shown) b (over (m .shown b) start (cells held)) i
     near-shows Empty h q there within low i =
         sym (unchanged (m .shown) b (over (m .shown b) start (cells held)) (held-none m bear b start held long there start-starts within low h) i)
@@ -69,7 +69,7 @@ module _ (m : Meaning) (bear : Bearing m) (b o : ℕ) where
   -- bytes over buffered the held ones
   module _ (held run : List ℕ) (long : length held ≡ m .batch) (there : b < m .blocks) (within : start + m .batch ≤ m .size) (low : m .mark b ≤ start)
       (in-batch : o - start + length run ≤ m .batch) where
-    abbrev pub held′ : List ℕ
+    abbrev held′ : List ℕ
     held′ = over held (o - start) run
 
     fits-held : o - start + length run ≤ length held
@@ -90,7 +90,7 @@ module _ (m : Meaning) (bear : Bearing m) (b o : ℕ) where
     fits-L : o + length (cells run) ≤ length L
     fits-L = rw (length-map run byte, L-long) (omega (arith, from))
 
-    pub lay-inside : over (m .shown b) start (cells held′) ≡ over L o (cells run)
+    lay-inside : over (m .shown b) start (cells held′) ≡ over L o (cells run)
     lay-inside =
         ext-getD lost (over (m .shown b) start (cells held′)) (over L o (cells run))
         (held-long m bear b start held′ long′ there start-starts within low ∙ sym (over-length L o (cells run) fits-L ∙ L-long))

@@ -49,14 +49,14 @@ module _ (m : Meaning) (bear : Bearing m) where
   cell-at : (held : List ℕ) (i : ℕ) → i < length held → getD (cells held) i lost ≡ byte (getD held i 0)
   cell-at held i h = getD-map byte held i 0 lost h
 
-  pub blank-below : (b s i : ℕ) → b < m .blocks → m .mark b ≤ s → s ≤ i → i < m .size → shown-at m b i ≡ byte 255
+  blank-below : (b s i : ℕ) → b < m .blocks → m .mark b ≤ s → s ≤ i → i < m .size → shown-at m b i ≡ byte 255
   blank-below b s i there lo h l = bear .sane .shown-blank b i there (omega arith) l
 
   module _ (b s : ℕ) (held : List ℕ) (long : length held ≡ m .batch) (there : b < m .blocks) (starts : s / m .batch * m .batch ≡ s) (within : s + m .batch ≤ m .size) (above : m .mark b ≤ s) where
     pub lies : s + length (cells held) ≤ length (m .shown b)
     lies = rw (length-map held byte, long, bear .sane .shown-length b there) within
 
-    abbrev pub over-held : List Cell
+    abbrev over-held : List Cell
     over-held = over (m .shown b) s (cells held)
 
     pub held-long : length over-held ≡ m .size

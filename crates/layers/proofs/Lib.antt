@@ -1,5 +1,6 @@
 pub mod Buffers
 pub mod Cover
+mod Examples
 pub mod Keep
 pub mod Layer
 pub mod Look
@@ -9,9 +10,9 @@ pub mod Others
 pub mod Put
 pub mod Refuse
 pub mod Sanity
-pub mod Split
 pub mod Start
 pub mod Steps
 pub mod Told
 pub mod Turns
 pub mod Used
+pub mod Words

@@ -26,12 +26,7 @@ use Rattle.layers.proofs.Cover.{part-long, part-at}
 use Rattle.layers.proofs.Layer.{byte-lost, held-long, lost-under, lost-over}
 use Rattle.layers.proofs.Moves.{full-long}
 use Rattle.layers.proofs.Refuse.{same-place}
-use Rattle.layers.proofs.Start.{starts}
 use Rattle.layers.proofs.Turns.{begins-at, none-shown}
-
-pub cells-readable : (xs : List ℕ) → readable (cells xs) ≡ true
-cells-readable [] = refl
-cells-readable (x ∷ xs) = cells-readable xs
 
 readable-at : (xs : List Cell) → readable xs ≡ true → (i : ℕ) → i < length xs → getD xs i lost ≡ lost → ⊥
 readable-at [] h i l e = omega arith

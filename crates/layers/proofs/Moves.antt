@@ -19,14 +19,14 @@ use Rattle.flash.proofs.Over.{here, over-front}
 use Rattle.flash.proofs.Refusals.{Accepted, accepted}
 use Rattle.flash.proofs.Settled.{nothing-held}
 use Rattle.layers.specs.Batch.{used}
-use Rattle.layers.specs.Buffered.{shows, raised, marks, buffered, Fills, Holding, Bearing, Sound, Near}
+use Rattle.layers.specs.Buffered.{shows, marks, buffered, Fills, Holding, Bearing, Sound, Near}
 use Rattle.layers.specs.declared.buffer.State.{State}
 use Rattle.layers.specs.declared.buffer.State.the-variants.{Empty, Filling}
 use Rattle.layers.proofs.Keep.{near-mine, start, start-starts, start-within, near-low, long′, lay-shown, keeps-none, keeps-some}
 use Rattle.layers.proofs.Layer.{has-batch, words-at, lies}
-use Rattle.layers.proofs.Start.{used-blank, starts}
+use Rattle.layers.proofs.Start.{used-blank}
 use Rattle.layers.proofs.Steps.{last-held, accepted-mine, below-accepted, sent}
-use Rattle.layers.proofs.Used.{start-is, next-is}
+use Rattle.layers.proofs.Used.{next-is}
 
 pub full-long : (g batch : ℕ) (held : List ℕ) → g ≡ batch → batch ≤ 512 → length held ≡ 512 → length (take batch held) ≡ g
 full-long g batch held e small full = length-take-le batch held (omega (arith, full)) ∙ sym e
@@ -194,15 +194,6 @@ module _ (m : Meaning) (bear : Bearing m) (held : List ℕ) (long : length held 
       r n rest sane
       (below-accepted m bear held long b (Filling c s) o 0 a s (length held) (f .starts) whole lies-s (omega (arith, ap (m .mark) q, f .above)))
       (subst (λ (x : ℕ). Programmed m x s held r n) q p)
-
-  -- or it is that of the place
-  pub stays-near : (c s : ℕ) → Fills m c s held → program-refusal (buffered m (Filling c s) held) b o 0 ≡ None → o < s + m .batch → Near (Filling c s) (m .batch) b o
-  unfolding buffered
-  stays-near c s f none near =
-      let a = accepted (buffered m (Filling c s) held) b o 0 none in
-      let q : c ≡ b = accepted-mine m bear held long b (Filling c s) f o 0 a in
-      let k : with-at (raised m) c (s + used held) b ≡ s + used held = (λ u. with-at (raised m) (q u) (s + used held) b) ∙ here (raised m) b (s + used held) in
-      (q, sym (start-is (m .batch) (has-batch m bear) s o (f .starts) (omega (arith, k, a .above)) near))
 
 shape-programmed : (m : Meaning) (b o : ℕ) (run : List ℕ) (k : ℕ) → (programmed m b o run k .page ≡ m .page) × (programmed m b o run k .batch ≡ m .batch)
 unfolding programmed

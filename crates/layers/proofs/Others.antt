@@ -24,7 +24,7 @@ use Rattle.layers.specs.declared.buffer.WriteBuffer.{WriteBuffer}
 use Rattle.layers.proofs.Buffers.{sane-of}
 use Rattle.layers.proofs.Layer.{has-batch}
 use Rattle.layers.proofs.Moves.{full-long, empty-sound}
-use Rattle.layers.proofs.Refuse.{same-place, mark-place, mark-is}
+use Rattle.layers.proofs.Refuse.{same-place, mark-place}
 use Rattle.layers.proofs.Sanity.{sane-buffered}
 use Rattle.layers.proofs.Start.{starts}
 use Rattle.layers.proofs.Steps.{Mine, mine-shown, mine-mark}

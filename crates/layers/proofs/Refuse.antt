@@ -24,7 +24,7 @@ use Rattle.layers.specs.declared.buffer.Turn.{Turn}
 use Rattle.layers.proofs.Turns.{other-held-is}
 
 -- a block that cannot be had refuses every place in it
-pub place-more : (m : Meaning) (b o n : ℕ) (e : Refusal) → place-refusal m b 0 0 ≡ Some e → place-refusal m b o n ≡ Some e
+place-more : (m : Meaning) (b o n : ℕ) (e : Refusal) → place-refusal m b 0 0 ≡ Some e → place-refusal m b o n ≡ Some e
 unfolding place-refusal
 place-more m b o n e =
     ⊎-elim

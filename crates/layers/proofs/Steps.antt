@@ -10,7 +10,7 @@ use lib.ListN.{length, take, drop, getD, length-map}
 use Rattle.std.proofs.shelf.Lists.{take-append-drop}
 use Rattle.std.proofs.shelf.Tests.{cases-lt, cases-eq, true≢false}
 use Rattle.std.specs.declared.option.Option.the-variants.{None}
-use Rattle.flash.specs.Cells.{Cell, byte, lost, cells, blank, over}
+use Rattle.flash.specs.Cells.{Cell, byte, lost, cells, over}
 use Rattle.flash.specs.Meaning.{Meaning, Sane, with-at, mixed, shown-at}
 use Rattle.flash.specs.Refused.{other-held, program-refusal}
 use Rattle.flash.specs.Rules.{Answer, programmed, broken, Concerned, Passed, Failed, Goes, Programmed}
@@ -20,12 +20,11 @@ use Rattle.flash.proofs.Mixed.{again}
 use Rattle.flash.proofs.Over.{by-place, here, elsewhere, over-below, over-back}
 use Rattle.flash.proofs.Refusals.{Accepted, none-other}
 use Rattle.flash.proofs.Settled.{nothing-held}
-use Rattle.layers.specs.Batch.{used, up}
+use Rattle.layers.specs.Batch.{used, up, left}
 use Rattle.layers.specs.Buffered.{shows, raised, marks, buffered, Fills, Holding, Bearing}
 use Rattle.layers.specs.declared.buffer.State.{State}
 use Rattle.layers.specs.declared.buffer.State.the-variants.{Empty, Filling}
 use Rattle.layers.proofs.Layer.{has-batch, held-long, held-in}
-use Rattle.layers.proofs.Start.{starts}
 use Rattle.layers.proofs.Used.{used-last, up-le, up-mono, up-at}
 
 -- the batch that fills, if any, is of the block b

@@ -9,21 +9,20 @@ use lib.ListN.{length, take, replicate}
 use Rattle.std.proofs.shelf.Tests.{true≢false}
 use Rattle.std.specs.declared.option.Option.the-variants.{None}
 use Rattle.std.specs.declared.result.Result.the-variants.{Ok}
-use Rattle.flash.specs.Cells.{blank, over}
+use Rattle.flash.specs.Cells.{over}
 use Rattle.flash.specs.Meaning.{Meaning, Sane, with-at}
 use Rattle.flash.specs.Refused.{program-refusal}
 use Rattle.flash.specs.Rules.{Answer, Passed, Goes, Programmed}
 use Rattle.flash.proofs.Over.{by-place, here}
 use Rattle.flash.proofs.Refusals.{accepted}
 use Rattle.layers.specs.Batch.{used, turn, is-other, begun}
-use Rattle.layers.specs.Buffered.{raised, marks, buffered, Fills, Holding, Sound, Near, near}
+use Rattle.layers.specs.Buffered.{raised, marks, buffered, Fills, Holding, Sound, Near}
 use Rattle.layers.specs.declared.buffer.State.{State}
 use Rattle.layers.specs.declared.buffer.State.the-variants.{Empty, Filling}
 use Rattle.layers.specs.declared.buffer.Turn.the-variants.{Other, Here}
 use Rattle.layers.proofs.Keep.{start}
 use Rattle.layers.proofs.Layer.{has-batch}
 use Rattle.layers.proofs.Moves.{full-long, nothing-goes, kept-none, kept-some, completes, goes-down, goes-first, bears-after, empty-sound}
-use Rattle.layers.proofs.Start.{starts}
 use Rattle.layers.proofs.Turns.{turn-here, other-held-is}
 use Rattle.layers.proofs.Used.{start-is}
 

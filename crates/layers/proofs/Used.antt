@@ -80,7 +80,7 @@ module _ (g : ℕ) (some : 0 < g) where
   unfolding up
   up-le x = omega (arith, end-more g some (x + (g - 1)))
 
-  pub up-least : (x c : ℕ) → x ≤ c * g → up g x ≤ c * g
+  up-least : (x c : ℕ) → x ≤ c * g → up g x ≤ c * g
   unfolding up
   up-least x c h =
       ⊎-elim (λ (l : c * g < (x + (g - 1)) / g * g). absurd (omega (arith, next-batch g some c ((x + (g - 1)) / g) l, end-le g some (x + (g - 1)))))

@@ -1,7 +1,7 @@
-use mathlib.Core.Path.{refl, sym, _∙_}
+use mathlib.Core.Path.{_∙_, refl, sym}
 use native.Mathlib.Omega.{arith}
-use Rattle.std.proofs.shelf.Tests.{ne-eqb, eq-eqb}
-use Rattle.layers.proofs.Used.{used-more, used-all, used-le}
+use Rattle.std.proofs.shelf.Tests.{eq-eqb, ne-eqb}
+use Rattle.layers.proofs.Used.{used-le, used-more, used-all}
 use Rattle.layers.proofs.batch.filled.Needs as need
 use Rattle.layers.proofs.batch.filled.Needs.{then-x, else-x}
 

@@ -1,7 +1,6 @@
 use mathlib.Core.Path.{refl}
 use Prim.Native.Nat.{_%_}
 use native.Mathlib.Omega.{arith}
-use Rattle.layers.specs.Buffered.{near}
 use Rattle.layers.proofs.Put.{put-full, put-batch}
 use Rattle.layers.proofs.Told.{tells-complete}
 use Rattle.layers.proofs.buffer.WriteBuffer.complete.Needs as need

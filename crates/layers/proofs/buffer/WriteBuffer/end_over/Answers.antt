@@ -1,4 +1,3 @@
-use Rattle.layers.proofs.Keep.{start}
 use Rattle.layers.proofs.Marks.{mark-raised, mark-held}
 use Rattle.layers.proofs.buffer.WriteBuffer.end_over.Needs as need
 

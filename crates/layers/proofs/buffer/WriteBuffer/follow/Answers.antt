@@ -1,11 +1,9 @@
 use Prim.Native.Nat.{_-_, _%_}
 use native.Mathlib.Omega.{arith}
 use Rattle.std.proofs.shelf.Results.{err-from-errBy}
-use Rattle.flash.specs.Refused.{first}
-use Rattle.layers.specs.Batch.{left}
-use Rattle.layers.specs.Buffered.{near}
+use Rattle.flash.proofs.Batches.{room-mod}
+use Rattle.flash.proofs.Parts.{back-long}
 use Rattle.layers.proofs.Buffers.{in-two, in-first, room-of}
-use Rattle.layers.proofs.Split.{back-long, room-mod}
 use Rattle.layers.proofs.buffer.WriteBuffer.follow.Needs as need
 
 pub rest-requires : need.rest-requires

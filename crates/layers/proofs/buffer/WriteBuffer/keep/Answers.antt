@@ -3,8 +3,6 @@ use Prim.Native.Nat.{_-_, _%_, _<_}
 use native.Mathlib.Omega.{arith}
 use lib.ListN.{length}
 use borrow.Rule.Slice.PartMut.{putMid}
-use Rattle.layers.specs.Batch.{left}
-use Rattle.layers.specs.Buffered.{near}
 use Rattle.layers.proofs.Put.{put-full, put-batch, used-first}
 use Rattle.layers.proofs.Told.{tells-nothing, tells-kept}
 use Rattle.layers.proofs.buffer.WriteBuffer.keep.Needs as need

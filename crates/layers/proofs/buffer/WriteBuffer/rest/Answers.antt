@@ -3,9 +3,9 @@ use native.Mathlib.Omega.{arith}
 use lib.ListN.{length}
 use Rattle.std.proofs.shelf.Results.{err-from-errBy}
 use Rattle.std.specs.declared.result.Result.the-variants.{Ok}
-use Rattle.flash.specs.Refused.{first}
+use Rattle.flash.proofs.Batches.{whole-mod, tail-fits}
+use Rattle.flash.proofs.Parts.{front-long, back-long}
 use Rattle.layers.proofs.Buffers.{in-two, in-first, whole-of}
-use Rattle.layers.proofs.Split.{front-long, back-long, whole-mod, tail-fits}
 use Rattle.layers.proofs.buffer.WriteBuffer.rest.Needs as need
 
 pub direct-requires : need.direct-requires

@@ -1,5 +1,4 @@
 use Rattle.std.proofs.shelf.Results.{err-from-errBy}
-use Rattle.layers.specs.Batch.{left}
 use Rattle.layers.proofs.Others.{erases-of, erase-refused}
 use Rattle.layers.proofs.calls.WriteBufferFlash.erase.Needs as need
 

@@ -1,5 +1,4 @@
 use Rattle.std.proofs.shelf.Results.{err-from-errBy}
-use Rattle.layers.proofs.Keep.{start}
 use Rattle.layers.proofs.Look.{looks-err, looks-none, looks-here, covers-first}
 use Rattle.layers.proofs.calls.WriteBufferFlash.read.Needs as need
 

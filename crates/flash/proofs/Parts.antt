@@ -1,24 +1,18 @@
--- A run of a write buffer, split in two.
-use mathlib.Core.List.{_++_, List, []}
-use mathlib.Core.Path.{_≡_, _∙_, sym, ap, subst}
-use Prim.Native.Nat.{_+_, _-_, _*_, _/_, _%_, _<_, _≤_, ℕ}
-use native.Mathlib.Nat.{div-add-mod', mul-mod-left, mod-lt, mod-le, zero-mod, add-mod-right}
+-- A run in two parts, as the code cuts it.
+use mathlib.Core.List.{List, [], _++_}
+use mathlib.Core.Path.{_≡_, sym, subst}
+use Prim.Native.Nat.{ℕ, _+_, _-_, _%_, _≤_}
+use native.Mathlib.Nat.{zero-mod}
 use native.Mathlib.Omega.{arith}
 use lib.ListN.{length, take, drop, length-take, length-drop}
 use Rattle.std.proofs.shelf.Lists.{take-append-drop, take-all}
 use Rattle.std.specs.declared.option.Option.the-variants.{None}
 use Rattle.std.specs.declared.result.Result.the-variants.{Ok, Err}
+use Rattle.flash.specs.declared.refusal.Refusal.{Refusal}
 use Rattle.flash.specs.Meaning.{Meaning, Sane}
-use Rattle.flash.specs.Refused.{first, program-refusal}
+use Rattle.flash.specs.Refused.{program-refusal}
 use Rattle.flash.specs.Rules.{Answer, Goes}
-use Rattle.flash.specs.declared.refusal.Refusal.{Refusal}
-use Rattle.flash.proofs.Batches.{mod-first}
 use Rattle.flash.proofs.Chain.{chain-first, chain-passed, chain-rest, chain-then, chain-failed}
-use Rattle.flash.proofs.Refusals.{accepted}
-use Rattle.layers.specs.Buffered.{buffered, Sound}
-use Rattle.layers.specs.declared.buffer.State.{State}
-use Rattle.layers.proofs.Keep.{start-starts}
-use Rattle.layers.proofs.Layer.{words-at}
 
 module _ (k : ℕ) (bytes : List ℕ) (within : k ≤ length bytes) where
   abbrev pub front : List ℕ
@@ -33,7 +27,7 @@ module _ (k : ℕ) (bytes : List ℕ) (within : k ≤ length bytes) where
   pub back-long : length back ≡ length bytes - k
   back-long = simp (length-take, length-drop) (omega arith)
 
-  pub joined-is : front ++ back ≡ bytes
+  joined-is : front ++ back ≡ bytes
   joined-is =
       let z : k - 0 ≡ k = omega arith in
       rw (z, take-all (length bytes - k) (drop k bytes) (simp length-drop (omega arith))) (take-append-drop k bytes)
@@ -61,45 +55,6 @@ module _ (k : ℕ) (bytes : List ℕ) (within : k ≤ length bytes) where
 
     pub split-failed : (n : Meaning) (e : Refusal) → Goes m b o front (Err e) n → Goes m b o bytes (Err e) n
     split-failed n e g = subst (λ (x : List ℕ). Goes m b o x (Err e) n) joined-is (chain-failed m b o front back sane none′ pages′ n e g)
-
-module _ {ok : Type 0} (m : Meaning) (batch : ℕ) (st : State) (held : List ℕ) (s : Sound ok m batch st held) (small : batch ≤ 512) (full : length held ≡ 512) where
-  module _ (b o n : ℕ) (none : program-refusal (buffered m st (take batch held)) b o n ≡ None) where
-    words : (o % 4 ≡ 0) × (n % 4 ≡ 0)
-    unfolding buffered
-    words = let a = accepted (buffered m st (take batch held)) b o n none in (a .o-pages, a .n-pages)
-
-    batch-words : batch % 4 ≡ 0
-    batch-words = subst (λ (g : ℕ). g % 4 ≡ 0) (s .same) (s .bears .words)
-
-    starts-words : (x : ℕ) → (x - x % batch) % 4 ≡ 0
-    starts-words x =
-        let z : x - x % batch ≡ x / m .batch * m .batch = omega (arith, div-add-mod' x (m .batch), ap (λ (g : ℕ). x % g) (s .same)) in
-        rw z (words-at m (s .bears) (x / m .batch * m .batch) (start-starts m (s .bears) b x))
-
-    -- whole batches are whole words
-    pub whole-words : (n - n % batch) % 4 ≡ 0
-    whole-words = starts-words n
-
-    -- what is left of a batch is whole words
-    pub room-words : 0 < batch → (batch - o % batch) % 4 ≡ 0
-    room-words some = omega (arith, words, batch-words, starts-words o, mod-lt o some, div-add-mod' o batch)
-
-pub whole-mod : (n g : ℕ) → (n - n % g) % g ≡ 0
-whole-mod n g =
-    let z : n - n % g ≡ n / g * g = omega (arith, div-add-mod' n g) in
-    ap (λ (x : ℕ). x % g) z ∙ mul-mod-left (n / g) g
-
--- the start of the next batch
-pub room-mod : (o g : ℕ) → 0 < g → (o + (g - o % g)) % g ≡ 0
-room-mod o g some =
-    let z : o + (g - o % g) ≡ o - o % g + g = omega (arith, mod-lt o some, div-add-mod' o g) in
-    ap (λ (x : ℕ). x % g) z ∙ (add-mod-right (o - o % g) g ∙ whole-mod o g)
-
--- what is left of a run after its whole batches is less than one
-pub tail-fits : (o n g : ℕ) → 0 < g → o % g ≡ 0 → (o + (n - n % g)) % g + (n - (n - n % g)) < g
-tail-fits o n g some h =
-    let l : n % g ≤ n = mod-le n g in
-    rw (mod-first o (n - n % g) g h, whole-mod n g) (omega (arith, l, mod-lt n some))
 
 -- after a run of nothing
 module _ (m n : Meaning) (b o : ℕ) (bytes : List ℕ) (sane : Sane m) (none : program-refusal m b o (length bytes) ≡ None) (first : Goes m b o [] (Ok tt) n) where
