@@ -1,5 +1,7 @@
 // The sum that guards every header, node, name and run of data: CRC-32 with its bits reflected, polynomial 0xEDB88320,
 // starting at 0 and not inverted at the end. Start reading at `sum_of`; specs/Sum.antt has the sum bit by bit.
+#![tactic(auto)]
+
 ghost use Rattle.std.specs.Prelude.{◌≡◌, ◌/◌, ◌<◌};
 ghost use Rattle.crc32.specs.Sum.{rounds, fed, sum};
 ghost use Rattle.crc32.specs.Table.{HasRounds};

@@ -29,6 +29,7 @@ fn entry_words(node: &Entry<'_>, nsize: u32) -> [u32; 5]
     requires { nsize < 256 }
     ensures words { result ≡ node.now.pino ∷ node.now.version ∷ node.now.ino ∷ 0 ∷ (nsize + 256 * node.now.dtype) ∷ [] }
     ensures fits { node.now.dtype < 256 }
+    ensures ranges { (node.now.pino < 2 ^ 32) × (node.now.version < 2 ^ 32) × (node.now.ino < 2 ^ 32) }
 {
     [
         node.pino,
@@ -70,6 +71,7 @@ pub fn encode_entry(node: &Entry<'_>, out: &mut [u8]) -> Option<usize>
 fn content_words(node: &Content<'_>, csize: u32) -> [u32; 12]
     ensures words { result ≡ node.now.ino ∷ node.now.version ∷ node.now.mode ∷ 0 ∷ node.now.isize ∷ 0 ∷ 0 ∷ 0 ∷ node.now.offset ∷ csize ∷ node.now.dsize ∷ node.now.compr ∷ [] }
     ensures fits { (node.now.dsize < 2 ^ 32) × (node.now.compr < 256) }
+    ensures ranges { (node.now.ino < 2 ^ 32) × (node.now.version < 2 ^ 32) × (node.now.mode < 2 ^ 32) × (node.now.isize < 2 ^ 32) × (node.now.offset < 2 ^ 32) }
 {
     [
         node.ino,

@@ -1,5 +1,5 @@
 -- Batches of g bytes: where they begin and end.
-use Rattle.std.proofs.Common.{◌≡◌, ℕ, ◌+◌, ◌-◌, ◌*◌, ◌/◌, ◌%◌, ◌<◌, ◌≤◌, ◌⊎◌, sym, ap, ◌∙◌, ⊎_elim, mul-le-mul_right, mod-lt, add-mul, one-mul, div-add-mod', zero-add, div-mul-le_self, arith}
+use Rattle.std.proofs.Common.{◌≡◌, ℕ, ◌+◌, ◌-◌, ◌*◌, ◌/◌, ◌%◌, ◌<◌, ◌≤◌, sym, ap, ◌∙◌, ⊎_elim, mul-le-mul_right, mod-lt, add-mul, one-mul, div-add-mod', zero-add, div-mul-le_self, arith}
 use native.Mathlib.Nat.{lt-div-mul-add, mod-add-mod, mul-mod_left, mod-le, add-mod_right}
 use Rattle.std.proofs.lemmas.Bool.{cases_lt}
 

@@ -1,5 +1,5 @@
 -- Functions changed at a place again or not at all, rows that begin as one and go on as another.
-use Rattle.std.proofs.Common.{◌≡◌, ℕ, ◌+◌, ◌<◌, ◌≤◌, Bool, cond, List, [], length, get_or, take, drop, sym, refl, ◌∙◌, add-zero, arith, length-append, length-drop, length-take, rules}
+use Rattle.std.proofs.Common.{◌≡◌, ℕ, ◌+◌, ◌<◌, ◌≤◌, cond, List, [], length, get_or, drop, sym, refl, ◌∙◌, add-zero, arith, length-append, length-drop, length-take, rules}
 use Rattle.std.proofs.lemmas.List.{places, same_lists, get_or-drop, take-append-drop}
 use Rattle.flash.specs.Cells.{over}
 use Rattle.flash.specs.Meaning.{with_at, mixed}

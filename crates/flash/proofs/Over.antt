@@ -1,5 +1,5 @@
 -- Rows with others laid over them, and functions changed at one place.
-use Rattle.std.proofs.Common.{◌≡◌, ℕ, ◌+◌, ◌-◌, ◌<◌, ◌≤◌, Bool, true, false, cond, eqb, ◌⊎◌, List, ◌++◌, length, get_or, take, drop, sym, refl, ◌∙◌, ⊎_elim, append_assoc, arith, length-append, length-drop, length-take, rules}
+use Rattle.std.proofs.Common.{◌≡◌, ℕ, ◌+◌, ◌-◌, ◌<◌, ◌≤◌, Bool, true, false, cond, eqb, List, ◌++◌, length, get_or, take, drop, sym, refl, ◌∙◌, ⊎_elim, append_assoc, arith, length-append, length-drop, length-take, rules}
 use Rattle.std.proofs.lemmas.List.{places, same_lists, get_or-drop, take_at}
 use Rattle.std.proofs.lemmas.Bool.Decides.{eqb_tells}
 use Rattle.std.proofs.lemmas.Bool.{eq-eqb}

@@ -1,5 +1,5 @@
 // Where things lie on a flash, and how large it is.
-ghost use Rattle.std.specs.Prelude.{◌≡◌, ◌==◌};
+ghost use Rattle.std.specs.Prelude.{◌≡◌, nat_eq};
 
 // A block and an offset in it, always answered together.
 #[derive(Clone, Copy)]
@@ -20,7 +20,7 @@ pub struct Shape {
 impl Shape {
     // Whether a page is a batch, so that what is programmed settles at once.
     pub fn settles_at_once(self) -> bool
-        ensures { result ≡ (self.page == self.batch) }
+        ensures { result ≡ nat_eq self.page self.batch }
     {
         self.page == self.batch
     }

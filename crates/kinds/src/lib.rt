@@ -1,4 +1,6 @@
 // The values that stand for kinds on the flash: of the items that we know, and of what an entry can name.
+#![tactic(auto)]
+
 ghost use Rattle.std.specs.Prelude.{◌≡◌};
 ghost use Rattle.kinds.specs.Kinds.{kind_value, kind_with, dtype_of, mode_of};
 

@@ -1,5 +1,5 @@
 -- The walk of a block, item by item.
-use Rattle.std.proofs.Common.{◌≡◌, ℕ, zero, suc, ◌+◌, ◌-◌, ◌≤◌, List, [], ◌∷◌, length, take, drop, Some, None, Option, sym, refl, ap, ◌∙◌, arith, length-drop}
+use Rattle.std.proofs.Common.{◌≡◌, ℕ, zero, suc, ◌+◌, ◌≤◌, List, [], ◌∷◌, length, take, drop, Some, None, Option, sym, refl, ap, ◌∙◌, arith, length-drop}
 use Rattle.flash.specs.Cells.{Cell}
 use Rattle.nodes.specs.Items.{Item, stands, size}
 use Rattle.nodes.specs.Walk.{walk_in, walk_from, met}

@@ -11,7 +11,7 @@ entry-requires c = ((refl, tt), search rules)
 
 pub returns : goal.returns
 returns c =
-    ap (bit_xor c.entry.result) c.above-byte.ensures
+    ap (bit_xor c.entry.result) c.above_byte.ensures
     ∙ xor_comm c.entry.result (c.args.c / 256)
     ∙ ap (bit_xor (c.args.c / 256)) (c.entry.ensures ∙ ap (rounds 8) (and_mask (bit_xor c.args.c c.args.b) 8))
     ∙ sym (fed_is c.args.c c.args.b (search rules))

@@ -3,7 +3,7 @@ use Rattle.nodes.specs.Reading.{rest}
 use Rattle.exports.proofs.Counting.{countable}
 use Rattle.exports.proofs.count.Goals as goal
 
-pub overflow-add-n : goal.overflow-add-n
-overflow-add-n c =
+pub overflow_add-n : goal.overflow_add-n
+overflow_add-n c =
     let h = countable c.args.readable.now c.args.bytes.now c.loop-found.n _ (rest c.loop-found.reader) _ c.loop-found.invariant c.in-Some.ensures.first in
     search rules

@@ -11,10 +11,10 @@ returns-then-number g c ok =
 pub returns-in-Ok : goal.returns-in-Ok
 returns-in-Ok g c ok =
     block_read (g.F.Flash.meaning c.args.flash.now) c.args.block c.args.bytes.now c.args.readable.now c.read.new.out
-    c.note-all.new.readable c.read.auto.out c.note-all.ensures (c.in-Ok.ensures ok)
+    c.note_all.new.readable c.read.auto.out c.note_all.ensures (c.in-Ok.ensures ok)
 
 pub returns-else-number : goal.returns-else-number
 returns-else-number g c ok =
     block_words (g.F.Flash.meaning c.args.flash.now) c.args.block c.args.bytes.now c.args.readable.now c.read.new.out
-    c.in-Err.refusal c.read-words.new.bytes c.read-words.new.readable (c.in-Err.ensures ok)
-    (sym c.number.ensures ∙ c.if-number.false ∙ c.number-in-Err.ensures) (c.read-words.ensures ok)
+    c.in-Err.refusal c.read_words.new.bytes c.read_words.new.readable (c.in-Err.ensures ok)
+    (sym c.number.ensures ∙ c.if-number.false ∙ c.number-in-Err.ensures) (c.read_words.ensures ok)

@@ -12,7 +12,7 @@ loop-i-preserved g c ok fits j h =
     let bs = c.loop-i.bytes in
     let gs = c.loop-i.readable in
     let words : i < min (length c.args.readable.now) (length c.args.bytes.now / 4) = omega (arith, c.loop-i-test.true, c.min-words.ensures) in
-    word_more _ _ _ _ fits bs gs i (omega arith) (omega arith) c.loop-i.auto.bytes _ _ (c.note-word.ensures ok) (c.loop-i.invariant ok fits) j (omega arith)
+    word_more _ _ _ _ fits bs gs i (omega arith) (omega arith) c.loop-i.auto.bytes _ _ (c.note_word.ensures ok) (c.loop-i.invariant ok fits) j (omega arith)
 
 pub returns : goal.returns
 returns g c ok fits =

@@ -4,7 +4,7 @@ use Rattle.devices.proofs.memory.spoil.Goals as goal
 
 pub loop-x-preserved : goal.loop-x-preserved
 loop-x-preserved c =
-    ap (λ v. set c.loop-x.part c.loop-x.x-index v) c.with-fault.ensures
+    ap (λ v. set c.loop-x.part c.loop-x.x-index v) c.with_fault.ensures
     ∙ spoil_more c.loop-x.x-index c.args.fault c.args.part.now c.loop-x.part c.loop-x-test.true c.loop-x.auto.part c.loop-x.invariant
 
 pub returns : goal.returns

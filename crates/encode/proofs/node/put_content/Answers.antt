@@ -7,18 +7,18 @@ use Rattle.encode.proofs.node.put_content.Goals as goal
 pub returns : goal.returns
 returns c =
     record {
-      bytes = content_put (content_shown c.args.node.now) c.args.out.now _ _ _ _ _ _ _ _ c.content-words.ensures.fits.1 c.header.ensures c.content-words.ensures.words
-          c.put-words.ensures c.put-words-2.ensures c.sum-of.ensures c.sum-of-first-fixed.ensures c.put-words-3.ensures c.put.ensures;
+      bytes = content_put (content_shown c.args.node.now) c.args.out.now _ _ _ _ _ _ _ _ c.content_words.ensures.fits.1 c.header.ensures c.content_words.ensures.words
+          c.put_words.ensures c.put_words-2.ensures c.sum_of.ensures c.sum_of_first-fixed.ensures c.put_words-3.ensures c.put.ensures;
       trip = content_trip (content_shown c.args.node.now)
           (record {
-            ino = search rules;
-            version = search rules;
-            mode = search rules;
-            isize = search rules;
-            offset = search rules;
-            dsize = c.content-words.ensures.fits.0;
-            compr = c.content-words.ensures.fits.1;
+            ino = c.content_words.ensures.ranges.0;
+            version = c.content_words.ensures.ranges.1;
+            mode = c.content_words.ensures.ranges.2;
+            isize = c.content_words.ensures.ranges.3;
+            offset = c.content_words.ensures.ranges.4;
+            dsize = c.content_words.ensures.fits.0;
+            compr = c.content_words.ensures.fits.1;
             short = c.requires.0;
           })
-          (let s : c.sum-of.result < 2 ^ 32 = search rules in omega (arith, c.sum-of.ensures));
+          (let s : c.sum_of.result < 2 ^ 32 = search rules in omega (arith, c.sum_of.ensures));
     }

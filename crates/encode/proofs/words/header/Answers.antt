@@ -8,5 +8,5 @@ use Rattle.encode.proofs.words.header.Goals as goal
 pub returns : goal.returns
 unfolding spread
 returns c =
-    head_words (kind_value c.args.kind) c.args.totlen _ c.sum-of.result (omega arith) (omega arith)
-    (c.sum-of.ensures ∙ ap sum c.put-words.ensures)
+    head_words (kind_value c.args.kind) c.args.totlen _ c.sum_of.result (omega arith) (omega arith)
+    (c.sum_of.ensures ∙ ap sum c.put_words.ensures)

@@ -8,7 +8,7 @@ loop-i-init c = over_none c.args.out.now c.args.at
 pub loop-i-preserved : goal.loop-i-preserved
 loop-i-preserved c =
     c.put.ensures
-    ∙ words_more c.args.out.now c.args.at c.args.words.now c.loop-i.i _ _ (omega arith) c.loop-i-test.true c.loop-i.invariant c.to-le-bytes.ensures
+    ∙ words_more c.args.out.now c.args.at c.args.words.now c.loop-i.i _ _ (omega arith) c.loop-i-test.true c.loop-i.invariant c.to_le_bytes.ensures
 
 pub returns : goal.returns
 returns c = words_all c.args.out.now c.args.at c.args.words.now c.loop-i.i _ c.loop-i-test.false c.loop-i.invariant

@@ -8,4 +8,4 @@ pub returns : goal.returns
 unfolding all_entries
 returns c =
     let es = all_entries c.args.blocks.now in
-    c.over-blocks.ensures ∙ folded_count (lists es c.args.pino) (2 ^ 64 - 1) 0 0 es (omega arith)
+    c.over_blocks.ensures ∙ folded_count (lists es c.args.pino) (2 ^ 64 - 1) 0 0 es (omega arith)

@@ -6,4 +6,4 @@ use Rattle.index.proofs.entries.is_named.Goals as goal
 
 pub returns : goal.returns
 unfolding named all_entries
-returns c = c.over-blocks.ensures ∙ folded_any _ false (all_entries c.args.blocks.now)
+returns c = c.over_blocks.ensures ∙ folded_any _ false (all_entries c.args.blocks.now)

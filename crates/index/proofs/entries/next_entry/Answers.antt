@@ -3,4 +3,4 @@ use Rattle.index.proofs.entries.next_entry.Goals as goal
 
 pub returns : goal.returns
 unfolding all_entries
-returns c = c.over-blocks.ensures
+returns c = c.over_blocks.ensures

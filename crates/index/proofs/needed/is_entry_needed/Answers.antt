@@ -10,6 +10,6 @@ pub returns-else-entry-ne0 : goal.returns-else-entry-ne0
 unfolding needed_entry
 returns-else-entry-ne0 c = search rules
 
-pub returns-else-is-unbeaten : goal.returns-else-is-unbeaten
+pub returns-else-is_unbeaten : goal.returns-else-is_unbeaten
 unfolding needed_entry
-returns-else-is-unbeaten c = search rules
+returns-else-is_unbeaten c = search rules

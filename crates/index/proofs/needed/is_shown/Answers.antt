@@ -15,7 +15,7 @@ pub loop-at-smaller : goal.loop-at-smaller
 loop-at-smaller c =
     let b = found (goal.at.loop-at-smaller c).In-Some in
     let e = giver_ends span_shown (all_contents c.args.blocks.now) c.args.content.now.ino c.loop-at.at b.by b.found in
-    omega (arith, b.end, e, c.loop-at-test.true, c.shown-end-end.ensures.value, c.shown-end-end.ensures.fits)
+    omega (arith, b.end, e, c.loop-at-test.true, c.shown_end-end.ensures.value, c.shown_end-end.ensures.fits)
 
 pub loop-at-preserved : goal.loop-at-preserved
 loop-at-preserved c =
@@ -24,7 +24,7 @@ loop-at-preserved c =
     let s = span_shown c.args.content.now in
     let e = giver_ends span_shown cs s.ino c.loop-at.at b.by b.found in
     let end = b.end in
-    let below : c.loop-at.at < 2 ^ 32 - 1 = omega (arith, c.loop-at-test.true, c.shown-end-end.ensures.value, c.shown-end-end.ensures.fits) in
+    let below : c.loop-at.at < 2 ^ 32 - 1 = omega (arith, c.loop-at-test.true, c.shown_end-end.ensures.value, c.shown_end-end.ensures.fits) in
     let start : s.offset ≤ c.loop-at.at = c.loop-at.invariant.0 in (
       omega arith,
       λ j from to. elim (dec_le c.loop-at.at j) [
@@ -37,7 +37,7 @@ pub returns-in-None : goal.returns-in-None
 returns-in-None c =
     let cs = all_contents c.args.blocks.now in
     let s = span_shown c.args.content.now in
-    let end = c.shown-end-end.ensures.value in
+    let end = c.shown_end-end.ensures.value in
     let here = shows_here span_shown cs s c.loop-at.at c.loop-at.invariant.0 (omega (arith, c.loop-at-test.true, end)) (not_beaten s.version (giver span_shown cs s.ino c.loop-at.at) c.in-None.ensures) in
     sym (any_below_some (shows span_shown cs s) (length_of span_shown (last span_shown cs s.ino)) c.loop-at.at (omega (arith, c.loop-at-test.true, end)) here)
 
@@ -46,6 +46,6 @@ returns c =
     let cs = all_contents c.args.blocks.now in
     let s = span_shown c.args.content.now in
     let n = length_of span_shown (last span_shown cs s.ino) in
-    let end = c.shown-end-end.ensures.value in
+    let end = c.shown_end-end.ensures.value in
     let left = c.loop-at-test.false in
     sym (any_below_none (shows span_shown cs s) n (λ j l. not_covered span_shown cs s j (λ from to. c.loop-at.invariant.1 j from (omega (arith, end, left)))))

@@ -5,4 +5,4 @@ use Rattle.index.proofs.needed.outlives.Goals as goal
 
 pub returns : goal.returns
 unfolding all_entries
-returns c = c.finds-older.ensures ∙ folded_any _ false (all_entries c.args.blocks.now)
+returns c = c.finds_older.ensures ∙ folded_any _ false (all_entries c.args.blocks.now)

@@ -12,7 +12,7 @@ loop-block-preserved g c =
     let listed = g.R.Record.listed in
     let a = c.loop-block.answer in
     let b = c.block-item.result in
-    ap (λ x. fold f x (all_of listed (drop (i + 1) bs))) (c.over-records-answer.ensures ∙ ap (fold f a) (c.of.ensures ∙ ap listed c.block-item.is))
+    ap (λ x. fold f x (all_of listed (drop (i + 1) bs))) (c.over_records-answer.ensures ∙ ap (fold f a) (c.of.ensures ∙ ap listed c.block-item.is))
     ∙ sym (folded-++ f a (listed _) (all_of listed (drop (i + 1) bs)))
     ∙ sym (at_drop_more (λ l. fold f a (all_of listed l)) bs i b c.loop-block-test.true)
     ∙ c.loop-block.invariant

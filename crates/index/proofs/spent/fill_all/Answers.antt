@@ -12,7 +12,7 @@ pub loop-i-preserved : goal.loop-i-preserved
 loop-i-preserved c =
     let bs = c.args.blocks.now in
     let i = c.loop-i.i in
-    c.set-state.ensures ∙ ap (changed i Full) c.loop-i.invariant ∙ filled_more bs i
+    c.set_state.ensures ∙ ap (changed i Full) c.loop-i.invariant ∙ filled_more bs i
     ∙ ap (λ n. map (with_state Full) (take n bs) ++ drop n bs) (sym (add-one i))
 
 pub returns : goal.returns

@@ -22,10 +22,10 @@ returns g c =
     let kept = kept_in g.R.Record.listed in
     let f = λ (n v : ℕ) (x : g.row.R.Denot). eqb (g.R.Record.number x) n && eqb (g.R.Record.version x) v in
     let here = f c.number.result c.version.result in
-    c.over-kept.ensures
-    ∙ ap (λ l. fold (λ a x. a || here x) c.over-kept-found.result (all_of kept l)) c.above.ensures
+    c.over_kept.ensures
+    ∙ ap (λ l. fold (λ a x. a || here x) c.over_kept-found.result (all_of kept l)) c.above.ensures
     ∙ ap (λ r. fold (λ a x. a || here x) r (all_of kept (drop (suc home) bs)))
-    (c.over-kept-found.ensures ∙ ap (λ l. fold (λ a x. a || here x) false (all_of kept l)) c.below.ensures)
+    (c.over_kept-found.ensures ∙ ap (λ l. fold (λ a x. a || here x) false (all_of kept l)) c.below.ensures)
     ∙ in_both here kept (take home bs) (drop (suc home) bs)
     ∙ ap (λ n. any (f n c.version.result) (all_of kept (elsewhere home bs))) c.number.ensures
     ∙ ap (λ v. any (f (g.R.Record.number c.args.record.now) v) (all_of kept (elsewhere home bs))) c.version.ensures

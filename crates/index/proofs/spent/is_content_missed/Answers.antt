@@ -2,17 +2,17 @@ use Rattle.std.proofs.Common.{◌≡◌, Bool, true, false, not, ◌&&◌, sym, 
 use Rattle.tree.specs.Nodes.{content}
 use Rattle.index.specs.Missed.{elsewhere, need, missed}
 use Rattle.index.proofs.Twins.{content_twins, judged}
-use Rattle.index.proofs.spent.is_content_missed.Goals as need_of
+use Rattle.index.proofs.spent.is_content_missed.Goals as goal
 
-pub returns-then-is-content-needed : need_of.returns-then-is-content-needed
+pub returns-then-is_content_needed : goal.returns-then-is_content_needed
 unfolding need
-returns-then-is-content-needed c =
+returns-then-is_content_needed c =
     let bs = c.args.blocks.now in
     let one = c.args.one.now in
-    ap (λ n. n && not c.has_twin.result) (sym c.if-is-content-needed.true)
-    ∙ judged bs c.args.home (content one) _ c.has_twin.result c.is-content-needed.ensures
+    ap (λ n. n && not c.has_twin.result) (sym c.if-is_content_needed.true)
+    ∙ judged bs c.args.home (content one) _ c.has_twin.result c.is_content_needed.ensures
     (c.has_twin.ensures ∙ sym (content_twins one (elsewhere c.args.home bs)))
 
-pub returns-else-is-content-needed : need_of.returns-else-is-content-needed
+pub returns-else-is_content_needed : goal.returns-else-is_content_needed
 unfolding need missed
-returns-else-is-content-needed c = let e = c.is-content-needed.ensures in let f = c.if-is-content-needed.false in rw (sym e ∙ f) f
+returns-else-is_content_needed c = let e = c.is_content_needed.ensures in let f = c.if-is_content_needed.false in rw (sym e ∙ f) f

@@ -2,17 +2,17 @@ use Rattle.std.proofs.Common.{◌≡◌, Bool, true, false, not, ◌&&◌, sym, 
 use Rattle.tree.specs.Nodes.{entry}
 use Rattle.index.specs.Missed.{elsewhere, need, missed}
 use Rattle.index.proofs.Twins.{entry_twins, judged}
-use Rattle.index.proofs.spent.is_entry_missed.Goals as need_of
+use Rattle.index.proofs.spent.is_entry_missed.Goals as goal
 
-pub returns-then-is-entry-needed : need_of.returns-then-is-entry-needed
+pub returns-then-is_entry_needed : goal.returns-then-is_entry_needed
 unfolding need
-returns-then-is-entry-needed c =
+returns-then-is_entry_needed c =
     let bs = c.args.blocks.now in
     let one = c.args.one.now in
-    ap (λ n. n && not c.has_twin.result) (sym c.if-is-entry-needed.true)
-    ∙ judged bs c.args.home (entry one) _ c.has_twin.result c.is-entry-needed.ensures
+    ap (λ n. n && not c.has_twin.result) (sym c.if-is_entry_needed.true)
+    ∙ judged bs c.args.home (entry one) _ c.has_twin.result c.is_entry_needed.ensures
     (c.has_twin.ensures ∙ sym (entry_twins one (elsewhere c.args.home bs)))
 
-pub returns-else-is-entry-needed : need_of.returns-else-is-entry-needed
+pub returns-else-is_entry_needed : goal.returns-else-is_entry_needed
 unfolding need missed
-returns-else-is-entry-needed c = let e = c.is-entry-needed.ensures in let f = c.if-is-entry-needed.false in rw (sym e ∙ f) f
+returns-else-is_entry_needed c = let e = c.is_entry_needed.ensures in let f = c.if-is_entry_needed.false in rw (sym e ∙ f) f

@@ -19,8 +19,8 @@ returns c =
     let b = c.index-blocks-home.result in
     let entries = λ (e : EntryRecord). missed bs home (entry e) in
     let contents = λ (x : ContentRecord). missed bs home (content x) in
-    c.over-records.ensures
-    ∙ folded_any contents c.over-records-found.result c.as-slice-2.result.now
-    ∙ ap (λ l. c.over-records-found.result || any contents l) c.as-slice-2.ensures.value
-    ∙ ap (λ r. r || any contents (contents_in b)) (c.over-records-found.ensures ∙ folded_any entries false c.as-slice.result.now ∙ ap (any entries) c.as-slice.ensures.value)
+    c.over_records.ensures
+    ∙ folded_any contents c.over_records-found.result c.as_slice-2.result.now
+    ∙ ap (λ l. c.over_records-found.result || any contents l) c.as_slice-2.ensures.value
+    ∙ ap (λ r. r || any contents (contents_in b)) (c.over_records-found.ensures ∙ folded_any entries false c.as_slice.result.now ∙ ap (any entries) c.as_slice.ensures.value)
     ∙ misses_at bs home b c.if-home-blocks.false c.index-blocks-home.is

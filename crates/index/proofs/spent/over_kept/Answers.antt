@@ -12,7 +12,7 @@ loop-block-preserved g c =
     let f = g.P.Pass.step c.args.pass.now in
     let kept = kept_in g.R.Record.listed in
     let a = c.loop-block.answer in
-    ap (λ x. fold f x (all_of kept (drop (i + 1) bs))) (c.over-unspent-answer.ensures ∙ ap (λ b. fold f a (kept b)) c.block-item.is)
+    ap (λ x. fold f x (all_of kept (drop (i + 1) bs))) (c.over_unspent-answer.ensures ∙ ap (λ b. fold f a (kept b)) c.block-item.is)
     ∙ sym (folded-++ f a (kept _) (all_of kept (drop (i + 1) bs)))
     ∙ sym (at_drop_more (λ l. fold f a (all_of kept l)) bs i c.block-item.result c.loop-block-test.true)
     ∙ c.loop-block.invariant

@@ -6,5 +6,5 @@ use Rattle.losses.proofs.compare.are_same.Given as goal
 -- the bytes still to be compared decide
 abbrev pub invariant-loop-i : goal.invariant-loop-i
 invariant-loop-i l =
-    alike (l.at + l.n - l.i) (drop l.i (seen l.want-flags l.want)) (drop l.i (seen l.got-flags l.got))
-    ≡ alike l.n (drop l.at (seen l.want-flags l.want)) (drop l.at (seen l.got-flags l.got))
+    alike (l.at + l.n - l.i) (drop l.i (seen l.want_flags l.want)) (drop l.i (seen l.got_flags l.got))
+    ≡ alike l.n (drop l.at (seen l.want_flags l.want)) (drop l.at (seen l.got_flags l.got))

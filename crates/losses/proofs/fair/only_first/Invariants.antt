@@ -9,8 +9,8 @@ use Rattle.losses.proofs.fair.only_first.Given as goal
 -- the items still to come decide, and what counts of them can be compared
 abbrev pub invariant-loop-met : goal.invariant-loop-met
 invariant-loop-met l =
-    (judged (seen l.want-flags l.want) (seen l.got-flags l.got) (rest l.before) (rest l.after)
-    ≡ fair (seen l.want-flags l.want) (walk (seen l.want-flags l.want)) (seen l.got-flags l.got))
+    (judged (seen l.want_flags l.want) (seen l.got_flags l.got) (rest l.before) (rest l.after)
+    ≡ fair (seen l.want_flags l.want) (walk (seen l.want_flags l.want)) (seen l.got_flags l.got))
     × Ready (length l.want) (rest l.before)
 
 abbrev pub decreases-loop-met : goal.decreases-loop-met

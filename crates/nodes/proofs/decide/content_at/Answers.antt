@@ -5,8 +5,8 @@ use Rattle.nodes.proofs.decide.content_at.Goals as goal
 pub returns-then-not-reaches : goal.returns-then-not-reaches
 returns-then-not-reaches c = content_short c.requires.headed c.if-not-reaches.ensures c.requires.kind
 
-pub read-content-requires : goal.read-content-requires
-read-content-requires c = node_length c.requires.headed (c.args.header.totlen - 0) (omega arith) c.if-not-reaches.ensures
+pub read_content-requires : goal.read_content-requires
+read_content-requires c = node_length c.requires.headed (c.args.header.totlen - 0) (omega arith) c.if-not-reaches.ensures
 
 pub returns-in-None : goal.returns-in-None
 returns-in-None c =

@@ -5,8 +5,8 @@ use Rattle.nodes.proofs.decide.entry_at.Goals as goal
 pub returns-then-not-reaches : goal.returns-then-not-reaches
 returns-then-not-reaches c = entry_short c.requires.headed c.if-not-reaches.ensures c.requires.kind
 
-pub read-entry-requires : goal.read-entry-requires
-read-entry-requires c = node_length c.requires.headed (c.args.header.totlen - 0) (omega arith) c.if-not-reaches.ensures
+pub read_entry-requires : goal.read_entry-requires
+read_entry-requires c = node_length c.requires.headed (c.args.header.totlen - 0) (omega arith) c.if-not-reaches.ensures
 
 pub returns-in-None : goal.returns-in-None
 returns-in-None c =

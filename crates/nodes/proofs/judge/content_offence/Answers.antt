@@ -6,10 +6,10 @@ pub returns-then-c-gt1 : goal.returns-then-c-gt1
 unfolding content_offence
 returns-then-c-gt1 c = search rules
 
-pub returns-then-content-fits : goal.returns-then-content-fits
+pub returns-then-content_fits : goal.returns-then-content_fits
 unfolding content_offence
-returns-then-content-fits c = search rules
+returns-then-content_fits c = search rules
 
-pub returns-else-content-fits : goal.returns-else-content-fits
+pub returns-else-content_fits : goal.returns-else-content_fits
 unfolding content_offence
-returns-else-content-fits c = search rules
+returns-else-content_fits c = search rules

@@ -7,6 +7,6 @@ pub returns : goal.returns
 returns c =
     let node = c.args.node.now in
     let part = part_is node 40 (get_or node 28 0) (get_or node 28 0) refl in
-    let head = sym c.le-u32.ensures ∙ c.if-le-u32-sum-of.false ∙ c.sum-of.ensures in
-    let tail = sym c.le-u32-else-le-u32-sum-of.ensures ∙ c.if-le-u32-sum-of-2.false ∙ c.sum-of-else-le-u32-sum-of.ensures ∙ ap sum part in
-    entry_is node _ _ _ _ _ (entry_passes node (omega arith) head tail) c.le-u32-2.ensures c.le-u32-3.ensures c.le-u32-4.ensures refl part
+    let head = sym c.le_u32.ensures ∙ c.if-le_u32-sum_of.false ∙ c.sum_of.ensures in
+    let tail = sym c.le_u32-else-le_u32-sum_of.ensures ∙ c.if-le_u32-sum_of-2.false ∙ c.sum_of-else-le_u32-sum_of.ensures ∙ ap sum part in
+    entry_is node _ _ _ _ _ (entry_passes node (omega arith) head tail) c.le_u32-2.ensures c.le_u32-3.ensures c.le_u32-4.ensures refl part

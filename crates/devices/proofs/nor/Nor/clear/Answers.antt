@@ -3,17 +3,17 @@ use Rattle.flash.proofs.Refusals.{refused_as, not_refused}
 use Rattle.devices.proofs.NorCalls.{clear_refused, clear_done, clear_cut}
 use Rattle.devices.proofs.nor.Nor.clear.Goals as goal
 
-pub returns-in-err-from : goal.returns-in-err-from
-returns-in-err-from c =
-    let p = err_from_is_err_and c.from-residual.result c.from-residual.ensures.1 in
-    rw (p.1, p.2) (clear_refused _ _ _ _ (refused_as _ _ _ c.in-err-from.ensures.value))
+pub returns-in_err-from : goal.returns-in_err-from
+returns-in_err-from c =
+    let p = err_from_is_err_and c.from_residual.result c.from_residual.ensures.1 in
+    rw (p.1, p.2) (clear_refused _ _ _ _ (refused_as _ _ _ c.in_err-from.ensures.value))
 
 pub returns-in-Ok : goal.returns-in-Ok
 returns-in-Ok c =
-    let w = c.in-ok-from.ensures in
+    let w = c.in_ok-from.ensures in
     clear_done _ _ _ _ (not_refused _ _ _ w.value) w.within.0 w.within.2 _ c.wipe.new.part c.in-Ok.ensures c.wipe.ensures
 
 pub returns-in-Err : goal.returns-in-Err
 returns-in-Err c =
-    let w = c.in-ok-from.ensures in
+    let w = c.in_ok-from.ensures in
     clear_cut _ _ _ _ (not_refused _ _ _ w.value) w.within.0 w.within.2 c.in-Err.cut c.spoil.new.part c.in-Err.ensures c.spoil.ensures

@@ -9,9 +9,9 @@ returns-in-Off c = record { value = ap (λ x. answered x (c.args.at.block * 4096
 
 pub returns-then-leaves : goal.returns-then-leaves
 returns-then-leaves c =
-    record { value = ap (λ x. answered x (c.args.at.block * 4096 + c.args.at.offset)) (place_out _ _ _ _ _ (on_of _ c.in-default.not-Off) c.if-leaves.ensures); within = tt }
+    record { value = ap (λ x. answered x (c.args.at.block * 4096 + c.args.at.offset)) (place_out _ _ _ _ _ (on_of _ c.in_default.not-Off) c.if-leaves.ensures); within = tt }
 
 pub returns : goal.returns
 returns c =
-    let none = place_none _ _ _ _ _ (on_of _ c.in-default.not-Off) c.if-leaves.ensures in
+    let none = place_none _ _ _ _ _ (on_of _ c.in_default.not-Off) c.if-leaves.ensures in
     record { value = ap (λ x. answered x (c.args.at.block * 4096 + c.args.at.offset)) none; within = within _ _ _ _ _ none }

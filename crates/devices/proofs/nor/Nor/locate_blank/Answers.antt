@@ -6,15 +6,15 @@ use Rattle.devices.proofs.NorRefusals.{program_place, program_offset, program_le
 use Rattle.devices.proofs.nor.Nor.locate_blank.Goals as goal
 use Rattle.devices.proofs.nor.Nor.locate_blank.Goals.{then-at-ne0-via-then-at-ne0, then-at-ne0-via-else-at-ne0+then-n-ne0}
 
-pub returns-in-err-from : goal.returns-in-err-from
-returns-in-err-from c =
-    let p = err_from_is_err_and c.from-residual.result c.from-residual.ensures.1 in
-    let e = sym (refused_as _ _ _ c.in-err-from.ensures.value) in
+pub returns-in_err-from : goal.returns-in_err-from
+returns-in_err-from c =
+    let p = err_from_is_err_and c.from_residual.result c.from_residual.ensures.1 in
+    let e = sym (refused_as _ _ _ c.in_err-from.ensures.value) in
     rw (p.1, p.2) (record { value = ap (λ x. answered x (c.args.at.block * 4096 + c.args.at.offset)) (program_place _ _ _ _ _ _ e); within = tt })
 
 pub returns-then-at-ne0 : goal.returns-then-at-ne0
 returns-then-at-ne0 c =
-    let none = sym (not_refused _ _ _ c.in-ok-from.ensures.value) in
+    let none = sym (not_refused _ _ _ c.in_ok-from.ensures.value) in
     record {
       value = ap (λ x. answered x (c.args.at.block * 4096 + c.args.at.offset)) (elim c.then-at-ne0.branch [
         | then-at-ne0-via-then-at-ne0 w ↦ program_offset _ _ _ _ _ none w.if-at-ne0.true
@@ -23,21 +23,21 @@ returns-then-at-ne0 c =
       within = tt;
     }
 
-pub returns-then-at-mark-of : goal.returns-then-at-mark-of
-returns-then-at-mark-of c =
-    let none = sym (not_refused _ _ _ c.in-ok-from.ensures.value) in
+pub returns-then-at-mark_of : goal.returns-then-at-mark_of
+returns-then-at-mark_of c =
+    let none = sym (not_refused _ _ _ c.in_ok-from.ensures.value) in
     record {
       value = ap (λ x. answered x (c.args.at.block * 4096 + c.args.at.offset)) (program_below _ _ _ _ _ none c.if-at-ne0.false c.if-n-ne0.false
-          (subst (λ m. c.args.at.offset < m) c.mark-of.ensures c.if-at-mark-of.true));
+          (subst (λ m. c.args.at.offset < m) c.mark_of.ensures c.if-at-mark_of.true));
       within = tt;
     }
 
 pub returns : goal.returns
 returns c =
-    let none = sym (not_refused _ _ _ c.in-ok-from.ensures.value) in
-    let w = c.in-ok-from.ensures.within in
+    let none = sym (not_refused _ _ _ c.in_ok-from.ensures.value) in
+    let w = c.in_ok-from.ensures.within in
     record {
       value = rw w.0 (ap (λ x. answered x (c.args.at.block * 4096 + c.args.at.offset)) (program_none _ _ _ _ _ none c.if-at-ne0.false c.if-n-ne0.false
-          (subst (λ m. m ≤ c.args.at.offset) c.mark-of.ensures c.if-at-mark-of.false)));
+          (subst (λ m. m ≤ c.args.at.offset) c.mark_of.ensures c.if-at-mark_of.false)));
       within = w;
     }

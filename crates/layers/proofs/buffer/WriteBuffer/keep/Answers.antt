@@ -10,10 +10,14 @@ returns-then-bytes-eq0 g c = record {
   goes = λ s n near. (s, tells_nothing _ _ _ _ _ _ c.args.bytes.now s c.args.self.now.small c.args.self.now.full n near c.if-bytes-eq0.true);
 }
 
-pub invariant-of-self : goal.invariant-of-self
-invariant-of-self g c =
+pub invariant_of-self : goal.invariant_of-self
+invariant_of-self g c =
     let w = c.args.self.now in
-    (w.some, (w.small, (put_full w.batch w.held c.put.new.row (c.args.at.offset % w.batch) c.args.bytes.now w.small w.full (omega (arith, c.requires)) c.put.ensures, tt)))
+    record {
+      some = w.some;
+      small = w.small;
+      full = put_full w.batch w.held c.put.new.row (c.args.at.offset % w.batch) c.args.bytes.now w.small w.full (omega (arith, c.requires)) c.put.ensures;
+    }
 
 pub returns : goal.returns
 returns g c =

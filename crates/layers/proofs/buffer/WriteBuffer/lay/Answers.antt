@@ -10,21 +10,21 @@ pub returns-in-Here : goal.returns-in-Here
 returns-in-Here g c = λ s none.
     c.follow-in-Here.ensures s none (asks_here g.F.Flash.ok g.F.Flash.meaning c.args.self.now c.args.at (length c.args.bytes.now) s none c.in-Here.ensures)
 
-pub returns-in-ok-send : goal.returns-in-ok-send
-returns-in-ok-send g c = λ s none.
+pub returns-in_ok-send-in-First : goal.returns-in_ok-send-in-First
+returns-in_ok-send-in-First g c = λ s none.
     let w = c.args.self.now in
     let v = c.send.new.self in
-    let e = c.in-ok-send.ensures in
+    let e = c.in_ok-send-in-First.ensures in
     after_none g.F.Flash.ok g.F.Flash.meaning w c.args.at c.args.bytes.now s none v c.follow.new.self c.follow.result
     (sends_first g.F.Flash.ok g.F.Flash.meaning w v c.args.at _ _ c.in-First.ensures s (Ok tt) (e.down s.below) e.held e.state e.batch)
     (λ t second. c.follow.ensures t second (rw e.state tt))
 
-pub returns-in-err-send : goal.returns-in-err-send
-returns-in-err-send g c = λ s none.
-    let x = err_from_is_err_and c.from-residual.result c.from-residual.ensures.1 in
+pub returns-in_err-send-in-First : goal.returns-in_err-send-in-First
+returns-in_err-send-in-First g c = λ s none.
+    let x = err_from_is_err_and c.from_residual.result c.from_residual.ensures.1 in
     let w = c.args.self.now in
     let v = c.send.new.self in
-    let e = c.in-err-send.ensures in
+    let e = c.in_err-send-in-First.ensures in
     rw (x.1, x.2)
     (in_none g.F.Flash.ok g.F.Flash.meaning w c.args.at c.args.bytes.now s none v _
     (sends_first g.F.Flash.ok g.F.Flash.meaning w v c.args.at _ _ c.in-First.ensures s _ (e.down s.below) e.held e.state e.batch))

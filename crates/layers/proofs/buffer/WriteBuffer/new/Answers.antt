@@ -13,7 +13,7 @@ returns g c = λ k.
       suits_if m shape shaped true c.if-not-fits.ensures,
     )
 
-pub invariant-of-result : goal.invariant-of-result
-invariant-of-result g c =
+pub invariant_of-result : goal.invariant_of-result
+invariant_of-result g c =
     let q = suits_is _ _ c.if-not-fits.ensures in
-    (q.3, (q.2, (c.fresh-held.ensures.long, tt)))
+    record { some = q.3; small = q.2; full = c.fresh-held.ensures.long }

@@ -11,10 +11,10 @@ returns-in-Off c =
 
 pub returns-then-leaves : goal.returns-then-leaves
 returns-then-leaves c =
-    record { value = ap (λ x. answered x (c.args.at.block * size_of (bytes_in c.args.self.now.kind) + c.args.at.offset)) (place_out _ _ _ _ _ _ _ (on_of _ c.in-default.not-Off) c.if-leaves.ensures); within = tt }
+    record { value = ap (λ x. answered x (c.args.at.block * size_of (bytes_in c.args.self.now.kind) + c.args.at.offset)) (place_out _ _ _ _ _ _ _ (on_of _ c.in_default.not-Off) c.if-leaves.ensures); within = tt }
 
 pub returns : goal.returns
 returns c =
-    let none = place_none _ _ _ _ _ _ _ (on_of _ c.in-default.not-Off) c.if-leaves.ensures in
+    let none = place_none _ _ _ _ _ _ _ (on_of _ c.in_default.not-Off) c.if-leaves.ensures in
     let w = found _ _ _ _ _ _ _ none c.start.result c.start.ensures.value in
     record { value = rw w.0.0 (ap (λ x. answered x (c.args.at.block * size_of (bytes_in c.args.self.now.kind) + c.args.at.offset)) none); within = w }

@@ -6,19 +6,19 @@ use Rattle.nand.specs.Sizes.{bytes_in, size_of}
 use Rattle.nand.proofs.NandRefusals.{read_place, read_lost, read_none}
 use Rattle.nand.proofs.chip.Nand.locate_read.Goals as goal
 
-pub returns-in-err-from : goal.returns-in-err-from
-returns-in-err-from c =
-    let p = err_from_is_err_and c.from-residual.result c.from-residual.ensures.1 in
-    let e = sym (refused_as _ _ _ c.in-err-from.ensures.value) in
+pub returns-in_err-from : goal.returns-in_err-from
+returns-in_err-from c =
+    let p = err_from_is_err_and c.from_residual.result c.from_residual.ensures.1 in
+    let e = sym (refused_as _ _ _ c.in_err-from.ensures.value) in
     rw (p.1, p.2) (record { value = ap (λ x. answered x (c.args.at.block * size_of (bytes_in c.args.self.now.kind) + c.args.at.offset)) (read_place _ _ _ _ _ _ _ _ e); within = tt })
 
-pub returns-then-lost-in : goal.returns-then-lost-in
-returns-then-lost-in c =
-    let none = sym (not_refused _ _ _ c.in-ok-from.ensures.value) in
-    record { value = ap (λ x. answered x (c.args.at.block * size_of (bytes_in c.args.self.now.kind) + c.args.at.offset)) (read_lost _ _ _ _ _ _ _ none c.if-lost-in.ensures); within = tt }
+pub returns-then-lost_in : goal.returns-then-lost_in
+returns-then-lost_in c =
+    let none = sym (not_refused _ _ _ c.in_ok-from.ensures.value) in
+    record { value = ap (λ x. answered x (c.args.at.block * size_of (bytes_in c.args.self.now.kind) + c.args.at.offset)) (read_lost _ _ _ _ _ _ _ none c.if-lost_in.ensures); within = tt }
 
 pub returns : goal.returns
 returns c =
-    let none = sym (not_refused _ _ _ c.in-ok-from.ensures.value) in
-    let w = c.in-ok-from.ensures.within in
-    record { value = rw w.0.0 (ap (λ x. answered x (c.args.at.block * size_of (bytes_in c.args.self.now.kind) + c.args.at.offset)) (read_none _ _ _ _ _ _ _ none c.if-lost-in.ensures)); within = w }
+    let none = sym (not_refused _ _ _ c.in_ok-from.ensures.value) in
+    let w = c.in_ok-from.ensures.within in
+    record { value = rw w.0.0 (ap (λ x. answered x (c.args.at.block * size_of (bytes_in c.args.self.now.kind) + c.args.at.offset)) (read_none _ _ _ _ _ _ _ none c.if-lost_in.ensures)); within = w }

@@ -3,5 +3,5 @@ use Rattle.nand.proofs.chip.NandFlash.restart.Goals as goal
 
 pub returns : goal.returns
 returns c =
-    let e = c.power-up.ensures in
+    let e = c.power_up.ensures in
     record { met = restart_met _ _ e.1 _ _ _ _ _ _ e.0 e.2 e.3; exact = e }

@@ -21,7 +21,7 @@ returns-in-Padding c = let e = by_case _ c.in-Padding.is refl in record { value 
 
 pub returns-in-Unknown : goal.returns-in-Unknown
 returns-in-Unknown c =
-    let e = by_case _ c.in-Unknown.is c.unknown-offence.ensures in record { value = e; judged = judged _ _ e }
+    let e = by_case _ c.in-Unknown.is c.unknown_offence.ensures in record { value = e; judged = judged _ _ e }
 
 pub returns-in-Entry : goal.returns-in-Entry
 returns-in-Entry c = let e = by_case _ c.in-Entry.is c.entry_offence.ensures in record { value = e; judged = judged _ _ e }

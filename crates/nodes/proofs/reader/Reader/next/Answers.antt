@@ -3,10 +3,10 @@ use Rattle.nodes.specs.Reading.{first_of, behind}
 use Rattle.nodes.proofs.Reading.{step, stop}
 use Rattle.nodes.proofs.reader.Reader.next.Goals as goal
 
-pub returns-in-default : goal.returns-in-default
-returns-in-default c =
+pub returns-in_default : goal.returns-in_default
+returns-in_default c =
     let self = c.args.self.now in
-    let end = stop self.readable.now self.bytes.now self.at c.in-default.ensures in
+    let end = stop self.readable.now self.bytes.now self.at c.in_default.ensures in
     record {
       first = sym (ap (first_of self.block) end);
       others = end ∙ sym (ap behind end);
@@ -15,18 +15,18 @@ returns-in-default c =
       readable = refl;
     }
 
-pub overflow-add-self : goal.overflow-add-self
-overflow-add-self c =
+pub overflow_add-self : goal.overflow_add-self
+overflow_add-self c =
     let self = c.args.self.now in
     let next = step self.readable.now self.bytes.now self.at _ c.in-Some.standing.size self.within c.in-Some.ensures in
     let fits = next.fits in
     search rules
 
-pub invariant-of-self : goal.invariant-of-self
-invariant-of-self c =
+pub invariant_of-self : goal.invariant_of-self
+invariant_of-self c =
     let self = c.args.self.now in
     let next = step self.readable.now self.bytes.now self.at _ c.in-Some.standing.size self.within c.in-Some.ensures in
-    (next.fits, tt)
+    record { within = next.fits }
 
 pub returns : goal.returns
 returns c =
