@@ -1,5 +1,7 @@
 // The bench: one task from beginning to end on a NOR card in memory, printing what was asked, what was answered, what stands
 // on the block and what a loss of power took. `task` is the story; the work is done by the libraries.
+#![tactic(auto)]
+
 mod show;
 
 use anyhow::anyhow;

@@ -1,6 +1,8 @@
 // The bench: one task on a NOR card, and on a write buffer over a NAND card, both in memory, with losses of power in it. It
 // prints what was asked, what was answered, what stands on the block and what was lost. `story` has the steps of the task,
 // `steps` carries them out on any flash, `desk` keeps and prints; the work is done by the libraries.
+#![tactic(auto)]
+
 mod desk;
 mod show;
 mod steps;

@@ -1,5 +1,5 @@
 -- The bytes of entries and contents, put part by part.
-use Rattle.std.proofs.Common.{◌≡◌, ℕ, ◌+◌, ◌-◌, ◌*◌, ◌/◌, ◌%◌, ◌<◌, ◌≤◌, List, [], ◌∷◌, ◌++◌, length, take, sym, refl, ap, ◌∙◌, append_assoc, mod-eq_of_lt, arith}
+use Rattle.std.proofs.Common.{◌≡◌, ℕ, ◌+◌, ◌*◌, ◌/◌, ◌%◌, ◌<◌, ◌≤◌, List, [], ◌∷◌, ◌++◌, length, take, sym, refl, ap, ◌∙◌, append_assoc, mod-eq_of_lt, arith}
 use Rattle.std.proofs.lemmas.List.{length-append}
 use Rattle.crc32.specs.Sum.{sum}
 use Rattle.flash.specs.Cells.{over}

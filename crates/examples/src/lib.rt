@@ -1,4 +1,6 @@
 // The worked examples of the rules, all together: proved of the definitions, and tried on the machine at hand.
+#![tactic(auto)]
+
 ghost use Rattle.std.specs.Prelude.{◌≡◌, true, eqb};
 ghost use Rattle.crc32.specs.Sum.{sum};
 ghost use Rattle.examples.specs.Worked.{Worked};

@@ -1,5 +1,7 @@
 // What Rust and C programs can link: the sum, and the number of items on a block. Made for benchmarks/, which compares the
 // proved code with plain Rust.
+#![tactic(auto)]
+
 ghost use Rattle.std.specs.Prelude.{◌≡◌, true, length, replicate};
 ghost use Rattle.crc32.specs.Sum.{sum};
 ghost use Rattle.nodes.specs.Seen.{seen};

@@ -4,7 +4,7 @@ use Rattle.std.proofs.lemmas.Bool.Decides.{nat_tests, leb_tells}
 use Rattle.tree.specs.Newest.{In, first, later, over, newest}
 use Rattle.tree.specs.Nodes.{of_file, covers}
 use Rattle.tree.specs.Lookups.{content_version, giver}
-use Rattle.tree.proofs.Newest.{top, none, is_none, some_none, none_some, true_false}
+use Rattle.tree.proofs.Newest.{top, none, is_none, none_some, true_false}
 use Rattle.tree.proofs.Nodes.{both}
 use Rattle.index.specs.declared.record.ContentRecord.{ContentRecord}
 use Rattle.index.specs.Runs.{sooner, start_after, run_end, run_at, RunsAlike}

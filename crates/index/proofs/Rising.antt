@@ -1,10 +1,10 @@
 -- The rising look for spent blocks.
-use Rattle.std.proofs.Common.{◌≡◌, ℕ, zero, suc, ◌+◌, ◌<◌, ◌≤◌, Bool, true, false, cond, not, ◌&&◌, ◌||◌, List, [], ◌∷◌, ◌++◌, map, length, get_or, take, drop, set, sym, refl, ap, ◌∙◌, subst, append_assoc, append-nil, arith, length-append}
+use Rattle.std.proofs.Common.{◌≡◌, ℕ, zero, suc, ◌<◌, ◌≤◌, Bool, true, false, cond, not, ◌&&◌, ◌||◌, List, [], ◌∷◌, ◌++◌, map, length, get_or, take, drop, set, sym, refl, ap, ◌∙◌, subst, append_assoc, append-nil, arith, length-append}
 use Rattle.std.proofs.lemmas.List.{drop_all, take_at, drop_at, map-append}
 use Rattle.tree.specs.Newest.{any}
 use Rattle.tree.specs.Spent.{pool, has_twin, replaced, marks}
 use Rattle.tree.specs.Lookups.{needed_entry, needed_content}
-use Rattle.tree.specs.Nodes.{NodeOf, entry, content}
+use Rattle.tree.specs.Nodes.{entry, content}
 use Rattle.index.specs.declared.block.Block.{Block}
 use Rattle.index.specs.declared.block.State.{State}
 use Rattle.index.specs.declared.block.State.TheVariants.{Spent, Full}

@@ -1,8 +1,8 @@
 -- Twins among the records of either kind.
-use Rattle.std.proofs.Common.{◌≡◌, ℕ, ◌<◌, ◌≤◌, Bool, true, false, cond, not, ◌&&◌, ◌||◌, eqb, List, [], ◌∷◌, ◌++◌, map, length, get_or, take, sym, refl, ap, ◌∙◌, append-nil}
+use Rattle.std.proofs.Common.{◌≡◌, ℕ, ◌<◌, ◌≤◌, Bool, true, false, cond, not, ◌&&◌, ◌||◌, eqb, List, [], ◌∷◌, map, length, get_or, take, sym, refl, ap, ◌∙◌, append-nil}
 use Rattle.std.proofs.lemmas.List.{drop_more, drop_all}
 use Rattle.tree.specs.Newest.{any}
-use Rattle.tree.specs.Nodes.{NodeOf, entry, content}
+use Rattle.tree.specs.Nodes.{entry, content}
 use Rattle.tree.specs.Spent.{has_twin}
 use Rattle.index.specs.declared.block.Block.{Block}
 use Rattle.index.specs.declared.record.EntryRecord.{EntryRecord}

@@ -1,6 +1,8 @@
 // The index of a store: a record in memory of each node that stands, block by block, and what is looked up in it.
 // Start reading at `block`, then `newest`, the one rule, and the look-ups in `entries` and `contents`; `needed` and `spent` say
 // what can be done without.
+#![tactic(auto)]
+
 pub mod block;
 pub mod contents;
 pub mod entries;

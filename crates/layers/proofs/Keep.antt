@@ -15,7 +15,6 @@ use Rattle.layers.specs.Buffered.{shows, raised, marks, buffered, Fills, Holding
 use Rattle.layers.specs.declared.buffer.State.{State}
 use Rattle.layers.specs.declared.buffer.State.TheVariants.{Empty, Filling}
 use Rattle.layers.proofs.Layer.{has_batch, size_whole, lies, held_long, held_below, held_in, held_above, held_none}
-use Rattle.layers.proofs.Start.{starts}
 use Rattle.layers.proofs.Steps.{Mine, mine_shown, mine_mark}
 use Rattle.layers.proofs.Used.{used_le, used_from, used_last, used_below, used_above, up_le, up_start, start_is}
 

@@ -10,7 +10,7 @@ use Rattle.flash.specs.declared.refusal.Refusal.TheVariants.{NoPower}
 use Rattle.flash.proofs.Over.{by_place, here, elsewhere}
 use Rattle.flash.proofs.Refusals.{not_some, refused_as}
 use Rattle.layers.specs.Batch.{used, up, without, left, kept}
-use Rattle.layers.specs.Buffered.{raised, marks, buffered, Fills, Holding, Bearing, Sound, means, IsSound}
+use Rattle.layers.specs.Buffered.{raised, buffered, Fills, Holding, Bearing, Sound, means, IsSound}
 use Rattle.layers.specs.declared.buffer.State.{State}
 use Rattle.layers.specs.declared.buffer.State.TheVariants.{Empty, Filling}
 use Rattle.layers.specs.declared.buffer.WriteBuffer.{WriteBuffer}
@@ -19,7 +19,6 @@ use Rattle.layers.proofs.Layer.{has_batch}
 use Rattle.layers.proofs.Moves.{full_long, empty_sound}
 use Rattle.layers.proofs.Refuse.{same_place, mark_place}
 use Rattle.layers.proofs.Sanity.{sane_buffered}
-use Rattle.layers.proofs.Start.{starts}
 use Rattle.layers.proofs.Steps.{Mine, mine_shown, mine_mark}
 use Rattle.layers.proofs.Used.{up_zero}
 

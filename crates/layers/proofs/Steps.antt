@@ -13,7 +13,7 @@ use Rattle.flash.proofs.Mixed.{again}
 use Rattle.flash.proofs.Over.{by_place, here, elsewhere, over_below, over_back}
 use Rattle.flash.proofs.Refusals.{Accepted, none_other}
 use Rattle.flash.proofs.Settled.{nothing_held}
-use Rattle.layers.specs.Batch.{used, up, left}
+use Rattle.layers.specs.Batch.{used, up}
 use Rattle.layers.specs.Buffered.{shows, raised, marks, buffered, Fills, Holding, Bearing}
 use Rattle.layers.specs.declared.buffer.State.{State}
 use Rattle.layers.specs.declared.buffer.State.TheVariants.{Empty, Filling}

@@ -1,9 +1,9 @@
 -- A block read whole.
-use Rattle.std.proofs.Common.{◌≡◌, ℕ, zero, suc, ◌+◌, ◌-◌, ◌*◌, ◌/◌, ◌<◌, ◌≤◌, Bool, true, false, cond, not, List, [], ◌∷◌, ◌++◌, length, get_or, take, drop, replicate, Some, None, Ok, Err, Option, sym, refl, ap, ◌∙◌, subst, arith}
+use Rattle.std.proofs.Common.{◌≡◌, ℕ, ◌/◌, ◌<◌, Bool, true, false, cond, not, List, [], ◌∷◌, length, get_or, replicate, Some, None, Ok, Err, Option, sym, refl, ap, ◌∙◌, subst, arith}
 use Rattle.std.proofs.lemmas.List.{get_or-map, get_or-replicate, take_all}
 use Rattle.flash.specs.declared.refusal.Refusal.{Refusal}
 use Rattle.flash.specs.declared.refusal.Refusal.TheVariants.{NoPower, Outside, Unreadable}
-use Rattle.flash.specs.Cells.{Cell, byte, lost, cells}
+use Rattle.flash.specs.Cells.{byte, lost}
 use Rattle.flash.specs.Meaning.{Meaning}
 use Rattle.flash.specs.Numbers.{number_of}
 use Rattle.flash.specs.Refused.{is_off, outside, first, place_causes, place_refusal, read_refusal, readable, part}

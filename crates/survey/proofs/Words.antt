@@ -1,12 +1,12 @@
 -- Words of a block, read one by one.
-use Rattle.std.proofs.Common.{◌≡◌, ℕ, zero, suc, ◌+◌, ◌-◌, ◌*◌, ◌/◌, ◌%◌, ◌<◌, ◌≤◌, Bool, true, false, cond, not, ◌⊎◌, List, [], ◌∷◌, ◌++◌, length, get_or, take, drop, set, Some, None, Ok, Err, Option, sym, refl, ap, ◌∙◌, subst, inl, inr, arith, length-drop, length-take}
+use Rattle.std.proofs.Common.{◌≡◌, ℕ, zero, suc, ◌+◌, ◌-◌, ◌*◌, ◌/◌, ◌<◌, ◌≤◌, Bool, true, false, cond, not, List, [], ◌∷◌, ◌++◌, length, get_or, take, drop, set, Some, None, Err, sym, refl, ap, ◌∙◌, subst, arith, length-drop, length-take}
 use native.Mathlib.Decide.{dec_lt}
 use borrow.Rule.Slice.PartMut.{put_mid}
 use Rattle.std.proofs.lemmas.List.{drop-drop, ext_get_or, get_or-map, get_or-take, get_or-drop, get_or-set_same, get_or-set_other}
 use Rattle.flash.specs.declared.refusal.Refusal.{Refusal}
 use Rattle.flash.specs.declared.refusal.Refusal.TheVariants.{Unreadable}
-use Rattle.flash.specs.Cells.{Cell, byte, lost, cells, over}
-use Rattle.flash.specs.Meaning.{Meaning, Sane, shown_at}
+use Rattle.flash.specs.Cells.{Cell, byte, lost, over}
+use Rattle.flash.specs.Meaning.{Meaning, shown_at}
 use Rattle.flash.specs.Refused.{first, place_causes, place_refusal, read_refusal, readable, part}
 use Rattle.flash.specs.Rules.{Fetched, refused, done}
 use Rattle.flash.proofs.Accepting.{place_accepted}

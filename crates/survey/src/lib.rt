@@ -1,5 +1,7 @@
 // Reads whole blocks of any flash, for the item reader: the bytes, and which of them could be read. Start reading at
 // `read_block`.
+#![tactic(auto)]
+
 ghost use Rattle.std.specs.Prelude.{◌≡◌, ◌+◌, ◌*◌, ◌/◌, ◌<◌, ◌≤◌, true, length, replicate};
 ghost use Rattle.survey.specs.Surveyed.{WordRead, Noted, Fits, Surveyed};
 ghost use Rattle.nodes.specs.Seen.{seen};

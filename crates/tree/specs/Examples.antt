@@ -1,7 +1,7 @@
 -- Pools and trees worked out: a file "a" of number 2 in the directory 1, and others. Assumes nothing.
 use Rattle.std.specs.Prelude.{◌≡◌, ℕ, Bool, true, false, List, [], ◌∷◌, ◌++◌, map, length, Some, None}
-use Rattle.tree.specs.Nodes.{Node, NodeOf, entry, content, twin}
-use Rattle.tree.specs.Tree.{Tree, Target, tree, apply, applied}
+use Rattle.tree.specs.Nodes.{Node, entry, content, twin}
+use Rattle.tree.specs.Tree.{Tree, tree, apply, applied}
 use Rattle.tree.specs.Needed.{needed}
 use Rattle.tree.specs.Fresh.{Layable}
 use Rattle.tree.specs.Spent.{pool, marks}

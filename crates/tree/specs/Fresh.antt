@@ -12,7 +12,7 @@
 use Rattle.std.specs.Prelude.{◌≡◌, ℕ, ◌<◌, ◌≤◌, true, ◌⊎◌, List, [], ◌∷◌, Some, ◌≢◌}
 use Rattle.nodes.specs.Records.{Entry, Content}
 use Rattle.tree.specs.Newest.{In, Within}
-use Rattle.tree.specs.Nodes.{Node, NodeOf, entry, content, number, version, covers, span_of}
+use Rattle.tree.specs.Nodes.{Node, entry, content, number, version, covers, span_of}
 use Rattle.tree.specs.Tree.{Tree, tree, last, Names, SameFile}
 use Rattle.tree.specs.Needed.{Needed}
 

@@ -18,7 +18,7 @@
 use Rattle.std.specs.Prelude.{◌≡◌, ℕ, Bool, true, ◌⊎◌, List, [], ◌∷◌, ◌++◌, map, take, None, Decides}
 use Rattle.nodes.specs.Records.{Entry, Content}
 use Rattle.tree.specs.Newest.{In, Within, newest, scan}
-use Rattle.tree.specs.Nodes.{Node, NodeOf, Span, span_of, twin, Uniq}
+use Rattle.tree.specs.Nodes.{Node, Span, span_of, twin, Uniq}
 use Rattle.tree.specs.Lookups as look
 use Rattle.tree.specs.Tree.{Tree, tree, apply, applied, Same}
 use Rattle.tree.specs.Needed.{Needed, needed}

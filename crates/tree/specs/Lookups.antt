@@ -8,7 +8,7 @@
 -- named       whether an entry that counts names a number
 -- needed_entry, needed_content   whether a node is needed (the subject's own words for it are in Needed.antt)
 -- carried     what was looked up, by what it is a record of
-use Rattle.std.specs.Prelude.{ℕ, zero, suc, Bool, true, false, not, ◌&&◌, ◌||◌, List, [], ◌∷◌, Some, None, Option, ◌==◌, nat_lt}
+use Rattle.std.specs.Prelude.{ℕ, zero, suc, Bool, false, not, ◌&&◌, ◌||◌, List, Some, None, Option, ◌==◌, nat_lt}
 use Rattle.nodes.specs.Records.{Entry}
 use Rattle.tree.specs.Newest.{newest, any, unbeaten}
 use Rattle.tree.specs.Nodes.{Span, titled, of_file, covers}

@@ -5,7 +5,7 @@
 use Rattle.std.specs.Prelude.{◌≡◌, ℕ, ◌<◌, Bool, true, List, Some, ◌≢◌}
 use Rattle.nodes.specs.Records.{Entry, Content}
 use Rattle.tree.specs.Newest.{In}
-use Rattle.tree.specs.Nodes.{Node, NodeOf, entry, content, entries, contents, titled, span_of}
+use Rattle.tree.specs.Nodes.{Node, entry, content, entries, contents, titled, span_of}
 use Rattle.tree.specs.Lookups.{needed_entry, needed_content}
 use Rattle.tree.specs.Tree.{tree, title, last, giver, Names}
 

@@ -11,7 +11,7 @@
 -- applied     nodes applied in order
 use Rattle.std.specs.Prelude.{◌≡◌, ℕ, ◌<◌, min, cond, List, [], ◌∷◌, Some, None, Option, ◌==◌, nat_lt}
 use Rattle.nodes.specs.Records.{Entry, Content}
-use Rattle.tree.specs.Nodes.{Node, NodeOf, entry, content, entries, contents, titled, of_file, covers, span_of, byte_of}
+use Rattle.tree.specs.Nodes.{Node, entry, content, entries, contents, titled, of_file, covers, span_of, byte_of}
 use Rattle.tree.specs.Lookups as look
 
 pub record Target : Type 0 where

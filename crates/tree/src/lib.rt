@@ -1,5 +1,7 @@
 // The rules of the tree over plain nodes, and what follows from them. `supersedes` is the one rule that all of it rests on.
 // Start reading at specs/Newest.antt, Tree.antt and Needed.antt; specs/Laws.antt has what follows.
+#![tactic(auto)]
+
 ghost use Rattle.std.specs.Prelude.{◌≡◌, nat_lt};
 ghost use Rattle.tree.specs.Laws.{Lawful};
 

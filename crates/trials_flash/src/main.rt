@@ -18,6 +18,8 @@
 // line of a part answers the shape of the flash, or a refusal with what came back: the length and the sum of the memory, or
 // the shape of the chip. A part that ends in `quiet` prints nothing but one number for all its answers. A run has at most 8,192
 // bytes, and memory 131,072.
+#![tactic(auto)]
+
 mod answer;
 mod ask;
 mod line;

@@ -23,6 +23,8 @@
 //     states                        the number of each block's state, as a digit
 //
 // Of twins the one at the lowest place is answered. A part that ends in `quiet` prints nothing but one number for its answers.
+#![tactic(auto)]
+
 mod ask;
 mod line;
 mod table;

@@ -15,6 +15,8 @@
 //
 // An encoder answers how many bytes it laid, 9999 for none, and a number for all of the block. A walk answers how many items
 // it met, the place of the last, the number of the first offence or 0, and one number for all fields of all items.
+#![tactic(auto)]
+
 mod lay;
 mod line;
 mod walk;

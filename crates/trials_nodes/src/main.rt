@@ -1,5 +1,6 @@
 // Trials of the reader of items and of the judge: a table of made blocks, line by line. The file `stdout` is written by the
 // model, which knows nothing of this code.
+#![tactic(auto)]
 
 mod bad_contents;
 mod bad_entries;

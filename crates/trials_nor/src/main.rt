@@ -1,5 +1,7 @@
 // Trials of the NOR chip: what it refuses and in which order, and what a cut of the power leaves. The file `stdout` is written
 // by the model, which knows nothing of this code.
+#![tactic(auto)]
+
 mod call;
 mod chance;
 mod cuts;

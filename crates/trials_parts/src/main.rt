@@ -1,5 +1,6 @@
 // Trials of the sums, of what fills a batch, and of the reader where pages cannot be read. The file `stdout` is written by the
 // model, which knows nothing of this code.
+#![tactic(auto)]
 
 mod digest;
 mod fillings;

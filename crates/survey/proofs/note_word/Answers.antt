@@ -1,5 +1,5 @@
-use Rattle.std.proofs.Common.{◌≡◌, ℕ, ◌+◌, ◌-◌, ◌*◌, ◌≤◌, List, length, take, drop, sym, refl, ◌∙◌, subst, arith, length-drop, length-take}
-use Rattle.survey.specs.Surveyed.{WordRead, Noted}
+use Rattle.std.proofs.Common.{◌≡◌, ℕ, ◌+◌, ◌-◌, ◌*◌, ◌≤◌, length, take, drop, sym, refl, ◌∙◌, subst, arith, length-drop, length-take}
+use Rattle.survey.specs.Surveyed.{WordRead}
 use Rattle.survey.proofs.Words.{put_over}
 use Rattle.survey.proofs.note_word.Goals as goal
 

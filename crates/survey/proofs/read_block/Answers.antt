@@ -1,5 +1,4 @@
-use Rattle.std.proofs.Common.{◌≡◌, ℕ, sym, ◌∙◌, arith}
-use Rattle.flash.specs.Numbers.{number_of}
+use Rattle.std.proofs.Common.{sym, ◌∙◌}
 use Rattle.survey.proofs.Blocks.{block_refused, block_read, block_words}
 use Rattle.survey.proofs.read_block.Goals as goal
 

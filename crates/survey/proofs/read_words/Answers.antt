@@ -1,6 +1,5 @@
-use Rattle.std.proofs.Common.{◌≡◌, ℕ, ◌+◌, ◌*◌, ◌/◌, ◌<◌, ◌≤◌, min, length, sym, ◌∙◌, arith}
-use Rattle.flash.specs.Meaning.{shown_at}
-use Rattle.survey.proofs.Words.{cell_at, word_more, seen_all, shown_whole}
+use Rattle.std.proofs.Common.{◌/◌, ◌<◌, min, length, ◌∙◌, arith}
+use Rattle.survey.proofs.Words.{word_more, seen_all, shown_whole}
 use Rattle.survey.proofs.read_words.Goals as goal
 
 pub loop-i-init : goal.loop-i-init

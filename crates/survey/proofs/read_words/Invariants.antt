@@ -1,4 +1,4 @@
-use Rattle.std.proofs.Common.{◌≡◌, ℕ, ◌*◌, ◌<◌, length}
+use Rattle.std.proofs.Common.{◌≡◌, ℕ, ◌*◌, ◌<◌}
 use Rattle.flash.specs.Meaning.{shown_at}
 use Rattle.survey.specs.Surveyed.{Fits}
 use Rattle.survey.proofs.Words.{cell_at}

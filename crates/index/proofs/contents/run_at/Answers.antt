@@ -1,11 +1,10 @@
-use Rattle.std.proofs.Common.{◌≡◌, ℕ, ◌&&◌, None, Option, sym, ap, ◌∙◌, subst}
+use Rattle.std.proofs.Common.{◌≡◌, ℕ, ◌&&◌, None, sym, ap, ◌∙◌, subst}
 use Rattle.tree.specs.Lookups.{giver, content_version}
-use Rattle.tree.specs.Newest.{better_of, scan}
+use Rattle.tree.specs.Newest.{better_of}
 use Rattle.tree.specs.Nodes.{of_file, covers}
 use Rattle.index.specs.declared.record.ContentRecord.{ContentRecord}
-use Rattle.index.specs.declared.run.Run.{Run}
 use Rattle.index.specs.Blocks.{all_contents}
-use Rattle.index.specs.Runs.{sooner, start_after, run_end, run_at, RunsAlike}
+use Rattle.index.specs.Runs.{sooner, start_after, run_end, RunsAlike}
 use Rattle.index.specs.Shown.{span_shown}
 use Rattle.index.proofs.Alike.{runs_alike}
 use Rattle.index.proofs.Folds.{folded_both}

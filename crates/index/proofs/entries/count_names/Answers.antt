@@ -1,4 +1,4 @@
-use Rattle.std.proofs.Common.{◌-◌, ◌^◌, refl, ◌∙◌, arith}
+use Rattle.std.proofs.Common.{◌-◌, ◌^◌, ◌∙◌, arith}
 use Rattle.index.specs.Blocks.{all_entries}
 use Rattle.index.specs.Names.{lists}
 use Rattle.index.proofs.Folds.{folded_count}

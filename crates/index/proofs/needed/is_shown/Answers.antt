@@ -1,7 +1,6 @@
-use Rattle.std.proofs.Common.{◌≡◌, ℕ, ◌+◌, ◌-◌, ◌^◌, ◌<◌, ◌≤◌, min, Bool, true, false, List, sym, arith}
+use Rattle.std.proofs.Common.{◌-◌, ◌^◌, ◌<◌, ◌≤◌, sym, arith}
 use native.Mathlib.Decide.{dec_le}
-use Rattle.tree.specs.Lookups.{any_below, giver, last, length_of, shows}
-use Rattle.index.specs.declared.record.ContentRecord.{ContentRecord}
+use Rattle.tree.specs.Lookups.{giver, last, length_of, shows}
 use Rattle.index.specs.Blocks.{all_contents}
 use Rattle.index.specs.Shown.{span_shown}
 use Rattle.index.proofs.Showing.{Beaten, is_beaten, not_beaten, passed_over, shows_here, giver_ends, any_below_none, any_below_some, not_covered}

@@ -1,4 +1,4 @@
-use Rattle.std.proofs.Common.{◌≡◌, suc, ◌+◌, ◌≤◌, [], ◌++◌, map, length, take, drop, sym, refl, ap, ◌∙◌, append-nil, add-one, arith}
+use Rattle.std.proofs.Common.{◌≤◌, ◌++◌, map, length, take, drop, sym, refl, ap, ◌∙◌, append-nil, add-one, arith}
 use Rattle.std.proofs.lemmas.List.{take_all, drop_all}
 use Rattle.index.specs.declared.block.State.TheVariants.{Full}
 use Rattle.index.specs.Missed.{with_state, changed}

@@ -1,4 +1,4 @@
-use Rattle.std.proofs.Common.{◌≡◌, List, [], map, sym, ap, ◌∙◌}
+use Rattle.std.proofs.Common.{List, [], map, sym, ap, ◌∙◌}
 use Rattle.tree.specs.Spent.{marks}
 use Rattle.index.specs.declared.block.Block.{Block}
 use Rattle.index.specs.declared.block.State.TheVariants.{Full}

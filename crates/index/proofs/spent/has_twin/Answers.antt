@@ -1,4 +1,4 @@
-use Rattle.std.proofs.Common.{◌≡◌, ℕ, suc, Bool, true, false, ◌&&◌, ◌||◌, eqb, List, ◌++◌, take, drop, fold, sym, ap, ◌∙◌}
+use Rattle.std.proofs.Common.{◌≡◌, ℕ, suc, Bool, false, ◌&&◌, ◌||◌, eqb, List, ◌++◌, take, drop, fold, sym, ap, ◌∙◌}
 use Rattle.tree.specs.Newest.{any}
 use Rattle.index.specs.declared.block.Block.{Block}
 use Rattle.index.specs.Blocks.{all_of}

@@ -1,4 +1,4 @@
-use Rattle.std.proofs.Common.{◌≡◌, Bool, true, false, not, ◌&&◌, sym, ap, ◌∙◌}
+use Rattle.std.proofs.Common.{not, ◌&&◌, sym, ap, ◌∙◌}
 use Rattle.tree.specs.Nodes.{content}
 use Rattle.index.specs.Missed.{elsewhere, need, missed}
 use Rattle.index.proofs.Twins.{content_twins, judged}

@@ -1,7 +1,5 @@
-use Rattle.std.proofs.Common.{◌≡◌, ℕ, suc, ◌+◌, ◌<◌, ◌≤◌, cond, List, length, sym, ap, ◌∙◌, subst, add-one, arith}
+use Rattle.std.proofs.Common.{ℕ, suc, ◌<◌, ◌≤◌, List, length, sym, subst, add-one, arith}
 use Rattle.index.specs.declared.block.Block.{Block}
-use Rattle.index.specs.declared.block.State.TheVariants.{Spent}
-use Rattle.index.specs.Missed.{misses, changed}
 use Rattle.index.proofs.Rising.{Risen, risen_none, risen_more, risen_all}
 use Rattle.index.proofs.spent.judge_all.Goals as goal
 

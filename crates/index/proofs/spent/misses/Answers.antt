@@ -1,9 +1,9 @@
-use Rattle.std.proofs.Common.{◌≡◌, Bool, false, ◌||◌, List, fold, sym, ap, ◌∙◌}
+use Rattle.std.proofs.Common.{false, ◌||◌, sym, ap, ◌∙◌}
 use Rattle.tree.specs.Newest.{any}
 use Rattle.tree.specs.Nodes.{entry, content}
 use Rattle.index.specs.declared.record.EntryRecord.{EntryRecord}
 use Rattle.index.specs.declared.record.ContentRecord.{ContentRecord}
-use Rattle.index.specs.Blocks.{entries_in, contents_in}
+use Rattle.index.specs.Blocks.{contents_in}
 use Rattle.index.specs.Missed.{missed}
 use Rattle.index.proofs.Folds.{folded_any}
 use Rattle.index.proofs.Twins.{misses_at, misses_none}
