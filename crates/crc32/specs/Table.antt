@@ -1,7 +1,7 @@
 -- When a table has the rounds of each byte. Assumes nothing.
 --
 -- every         a test passes at each entry of a list and its place, counted from i
--- HasRounds    256 entries, at each place k what eight rounds make of k
+-- HasRounds     256 entries, at each place k what eight rounds make of k
 use Rattle.std.specs.Prelude.{◌≡◌, ℕ, suc, Bool, true, false, cond, T, List, [], ◌∷◌, length, ◌==◌}
 use Rattle.crc32.specs.Sum.{rounds}
 

@@ -1,9 +1,9 @@
 -- A NOR chip in memory: blocks of 4,096 bytes, a page and a batch of four bytes. Assumes nothing.
 --
--- nor             what a NOR chip means, by its memory and its supply of power
--- nor_program     a program, whole: what it answers, and the memory and the steps left after it
+-- nor                  what a NOR chip means, by its memory and its supply of power
+-- nor_program          a program, whole: what it answers, and the memory and the steps left after it
 -- nor_erase, nor_arm   likewise
--- holds_blocks    whether so many bytes are 4 to 16 whole blocks
+-- holds_blocks         whether so many bytes are 4 to 16 whole blocks
 use Rattle.std.specs.Prelude.{ℕ, ◌+◌, ◌*◌, ◌/◌, ◌%◌, min, Bool, false, cond, List, length, take, drop, replicate, Some, None, Ok, Err, Option, Result, ◌==◌, nat_le}
 use Rattle.flash.specs.declared.refusal.Refusal.{Refusal}
 use Rattle.flash.specs.declared.refusal.Refusal.TheVariants.{NoPower}

@@ -7,7 +7,7 @@
 -- padding                     padding of n bytes; the header is what decides it, zeros follow
 -- entry_item                  the item that has an entry's fields; entry32 is its fixed part, but for the sums
 -- content_item                the item that has a content's fields; content60 is its fixed part, but for the sums
--- EntryFits, ContentFits    each field fits its place, and the name or the data is short enough
+-- EntryFits, ContentFits      each field fits its place, and the name or the data is short enough
 -- rest_of_batch               how many bytes there are from a place to the end of its batch, none where one ends there
 -- filling                     what fills n bytes: padding, or zero words where there is no room for a header
 use Rattle.std.specs.Prelude.{ℕ, ◌+◌, ◌-◌, ◌/◌, ◌%◌, ◌^◌, ◌<◌, ◌≤◌, cond, List, [], ◌∷◌, ◌++◌, length, replicate, nat_le}

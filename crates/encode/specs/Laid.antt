@@ -1,7 +1,7 @@
 -- Items laid one after the other. Assumes nothing.
 --
--- WellFormed        the bytes of an item are all that decide it, and it passes where there is just room for it
--- AllWellFormed    each of the items is
+-- WellFormed         the bytes of an item are all that decide it, and it passes where there is just room for it
+-- AllWellFormed      each of the items is
 -- laid               the bytes of an item as laid: zeros fill it up to its size
 -- run                the bytes of items laid one after the other
 -- placed             items with their places, the first at e

@@ -6,9 +6,9 @@
 --                              the walk of ys is that of xs and then just these items, and it ends behind them
 -- Opened                       the same of a blank block, where the run begins with the marker
 -- Appends, Opens               so it is with every run that fits
--- EntryTrip                   an entry made from its fields passes, and is read as these fields
--- ContentTrip                 a content does
--- EntryTrips, ContentTrips   so it is with all fields that fit their places
+-- EntryTrip                    an entry made from its fields passes, and is read as these fields
+-- ContentTrip                  a content does
+-- EntryTrips, ContentTrips     so it is with all fields that fit their places
 -- Filled                       what fills n bytes passes, and takes up n bytes
 -- Fills                        so it is with every number of whole words that a header can say
 -- Fillers                      zero words and padding pass, and take up what they should

@@ -2,7 +2,7 @@
 --
 -- Made           where the test is passed, n is answered, and after the call the buffer holds what was to be made; else nothing
 --                is answered, and the buffer holds what it held before
--- ItemMade      so it is with an item at the front of the buffer, zeros behind it up to its size; the test is that what it
+-- ItemMade       so it is with an item at the front of the buffer, zeros behind it up to its size; the test is that what it
 --                holds is short enough, and that there is room
 -- filling_goes   the test of what fills a batch from a place on: the batch is not empty, its rest is whole words, no more than a
 --                header can say, and there is room

@@ -1,5 +1,5 @@
 // What Rust and C programs can link: the sum, and the number of items on a block. Made for benchmarks/, which compares the
-// proved code with plain Rust.
+// proved code with plain Rust. The symbols that they link are in `exports_c`.
 #![tactic(auto)]
 
 ghost use Rattle.std.specs.Prelude.{◌≡◌, true, length, replicate};
@@ -10,8 +10,7 @@ ghost use Rattle.nodes.specs.Walk.{walk};
 use nodes::reader::Reader;
 
 // The sum of the bytes.
-#[unsafe(no_mangle)]
-pub extern "C" fn mutsindry_sum(bytes: &[u8]) -> u32
+pub fn mutsindry_sum(bytes: &[u8]) -> u32
     ensures { result ≡ sum bytes.now }
 {
     crc32::sum_of(bytes)
@@ -30,8 +29,7 @@ fn count<'a>(bytes: &'a [u8], readable: &'a [bool]) -> usize
 }
 
 // How many items the walk of a block of at most 4,096 bytes meets, all of which can be read.
-#[unsafe(no_mangle)]
-pub extern "C" fn mutsindry_items(bytes: &[u8]) -> usize
+pub fn mutsindry_items(bytes: &[u8]) -> usize
     ensures { result ≡ length (walk (seen (replicate 1024 true) bytes.now)) }
 {
     let readable = [true; 1024];

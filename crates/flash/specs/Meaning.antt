@@ -1,7 +1,7 @@
 -- What a flash is, apart from how it is made. Assumes nothing.
 --
--- Power      steady; armed: it may fail inside a program or an erase; off: no call but a restart does anything
--- Meaning    a flash as its user sees it:
+-- Power        steady; armed: it may fail inside a program or an erase; off: no call but a restart does anything
+-- Meaning      a flash as its user sees it:
 --              blocks, size     so many blocks of size bytes each
 --              page, batch      pages are programmed, batches settle
 --              shown            what each block shows to a read
@@ -10,7 +10,7 @@
 --              power
 --            Held are the bytes that are shown and not so settled. Blocks are functions of the block's number, so
 --            that a layer which moves blocks about can compose them
--- Sane       what holds of every flash at all times
+-- Sane         what holds of every flash at all times
 use Rattle.std.specs.Prelude.{◌≡◌, ℕ, ◌*◌, ◌/◌, ◌%◌, ◌^◌, ◌<◌, ◌≤◌, cond, List, ◌++◌, length, take, drop, ◌==◌, slice_index_or}
 use Rattle.flash.specs.Cells.{Cell, byte, lost}
 

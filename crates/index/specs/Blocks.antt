@@ -1,7 +1,7 @@
 -- The records of blocks. Assumes nothing.
 --
--- all_of                  the records of all blocks, one block after the other
--- entries_in, contents_in   of one block
+-- all_of                      the records of all blocks, one block after the other
+-- entries_in, contents_in     of one block
 -- all_entries, all_contents   of all
 use Rattle.std.specs.Prelude.{List, [], ◌∷◌, ◌++◌, vec_items}
 use Rattle.index.specs.declared.block.Block.{Block}

@@ -3,7 +3,7 @@
 -- start_after    where the first content of a number that begins behind the byte i begins, or a limit
 -- run_end        how far a content, or none, goes on from there
 -- run_at         the content that gives the byte i, if any, and up to where: bytes of a run are given by one content, or by none
--- RunsAlike     that it is so
+-- RunsAlike      that it is so
 use Rattle.std.specs.Prelude.{◌≡◌, ℕ, ◌+◌, ◌<◌, ◌≤◌, min, cond, ◌&&◌, List, Some, None, fold, Option, ◌==◌, nat_lt}
 use Rattle.tree.specs.Lookups.{giver}
 use Rattle.index.specs.declared.record.ContentRecord.{ContentRecord}

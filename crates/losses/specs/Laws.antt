@@ -1,26 +1,26 @@
 -- What holds of losses: of rows of cells, and of a flash m that is n after the loss. Assumes nothing.
 --
--- RowsLeft         the items met after a fair loss are the first of those that were to stand
--- RowsKept         whatever was lost, the items in a first part of the cells that is as it was to be are kept
--- NothingLost      where all can be read and nothing is lost, the loss is fair
--- FairDecided      where the items of a list are those of the walk of what was to stand, fairness is what the code decides
+-- RowsLeft          the items met after a fair loss are the first of those that were to stand
+-- RowsKept          whatever was lost, the items in a first part of the cells that is as it was to be are kept
+-- NothingLost       where all can be read and nothing is lost, the loss is fair
+-- FairDecided       where the items of a list are those of the walk of what was to stand, fairness is what the code decides
 -- Lost              the items of the list are those of the walk of what was to stand, and after a fair loss the first of them are met
--- ProgramLoss      a program of items fails that were to follow those of the block: after a fair loss the first of all these are
+-- ProgramLoss       a program of items fails that were to follow those of the block: after a fair loss the first of all these are
 --                   met; if the batches that end where the program begins, or before, were settled, the items in them are kept
--- OpeningLoss      a program of the marker and items fails on a blank block: after a fair loss the first of these are met
--- ProgramSpares    a program that fails loses nothing in other blocks
--- EraseLoss        an erase fails: after a fair loss the first items of each block are met; of a block that is not the one
+-- OpeningLoss       a program of the marker and items fails on a blank block: after a fair loss the first of these are met
+-- ProgramSpares     a program that fails loses nothing in other blocks
+-- EraseLoss         an erase fails: after a fair loss the first items of each block are met; of a block that is not the one
 --                   erased, the items in settled batches are kept
--- RestartLoss      a restart loses what was held: after a fair loss the first items of each block are met, and those in settled
+-- RestartLoss       a restart loses what was held: after a fair loss the first items of each block are met, and those in settled
 --                   batches are kept
 -- Cut               the power was cut, and not in an erase of the block i
--- SyncedKept       then no item of the block is lost if it was synced, be the loss fair or not
--- SyncedProgram    after a fair loss in a program of items that were to follow those of a synced block, all that stood are met, then
+-- SyncedKept        then no item of the block is lost if it was synced, be the loss fair or not
+-- SyncedProgram     after a fair loss in a program of items that were to follow those of a synced block, all that stood are met, then
 --                   the first of those being laid, and nothing else
--- ProgramFinishes  a program that is done settles the batches that end where it ends, or before
--- HeldFinished     on every flash all batches before the one with the held bytes are settled
--- UnheldFinished   where a page is a batch, all is settled, and every place where a program can begin is the end of a batch
--- RestartShows     after a restart a block shows what was settled
+-- ProgramFinishes   a program that is done settles the batches that end where it ends, or before
+-- HeldFinished      on every flash all batches before the one with the held bytes are settled
+-- UnheldFinished    where a page is a batch, all is settled, and every place where a program can begin is the end of a batch
+-- RestartShows      after a restart a block shows what was settled
 use Rattle.std.specs.Prelude.{◌≡◌, ℕ, ◌+◌, ◌%◌, ◌<◌, ◌≤◌, List, ◌∷◌, ◌++◌, length, take, None, ◌≢◌}
 use Rattle.flash.specs.Cells.{Cell, cells, blank}
 use Rattle.flash.specs.Meaning.{Meaning, Sane, batch_end}

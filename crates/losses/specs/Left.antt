@@ -1,6 +1,6 @@
 -- What a loss leaves of the items that were to stand. Assumes nothing.
 --
--- FirstPart   xs are the first of ys, in their order
+-- FirstPart    xs are the first of ys, in their order
 -- is_node      whether an item is an entry or a content
 -- nodes_of     the nodes among items, without their places
 -- Leading      items are the first of others, and so are their nodes

@@ -1,7 +1,7 @@
-#![tactic(auto)]
-
 // What stands on an erase block: JFFS2 items. Start reading at `walk`, where a reader hands them out one by one;
 // specs/Walk.antt says which they are. `judge` says which of them a mount refuses.
+#![tactic(auto)]
+
 pub(crate) mod bytes;
 pub(crate) mod decide;
 pub mod header;

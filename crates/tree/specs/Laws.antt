@@ -1,15 +1,15 @@
 -- What follows from the rules, for every pool of nodes. Assumes nothing.
 --
--- SameNodesSameTree          whatever the order, the blocks and the number of copies
--- DroppingKeepsTheTree       what is not needed can be dropped, and nothing becomes needed by that
+-- SameNodesSameTree           whatever the order, the blocks and the number of copies
+-- DroppingKeepsTheTree        what is not needed can be dropped, and nothing becomes needed by that
 -- LayingApplies                a fresh node laid on a pool is applied to its tree
--- LayingNeedsNothingMore     and makes nothing else needed again, but what waited for it
+-- LayingNeedsNothingMore      and makes nothing else needed again, but what waited for it
 -- LayingTellsApart            and leaves no two nodes of one kind, number and version
 -- RoomSpoilsNothing           nodes that a call may lay may still be laid after anything not needed was dropped
 -- CallsApply, CallsNeedTheirs, CallsTellApart   the same of every first run of the nodes that a call lays
 -- NeededIsDecided             the test tells which standing nodes are needed
--- NewestInOnePass            the newest is found record by record
--- ASpentBlockIsFound        marking the blocks in rising order finds a spent one wherever some block can be done without
+-- NewestInOnePass             the newest is found record by record
+-- ASpentBlockIsFound          marking the blocks in rising order finds a spent one wherever some block can be done without
 -- NeededStandsUnspent         and when it ends, what is needed stands in a block that is not spent; these show the same tree
 -- LookingTheSame              is an equivalence of trees
 -- LookupsOfRecords            what is looked up among records of nodes is what is looked up among the nodes

@@ -1,17 +1,17 @@
 -- The nodes that stand on a flash, by what the rules of the tree look at. Assumes nothing.
 --
--- Span           a content without its data: the length that it gives its file, and which bytes of the file it gives
--- span_of        that of a content
--- byte_of        the byte that a content gives at a place of its file: of a hole 0
--- NodeOf         a node: an entry or a content, in whatever form these are kept
--- Node           with all its fields
+-- Span                a content without its data: the length that it gives its file, and which bytes of the file it gives
+-- span_of             that of a content
+-- byte_of             the byte that a content gives at a place of its file: of a hole 0
+-- NodeOf              a node: an entry or a content, in whatever form these are kept
+-- Node                with all its fields
 -- entries, contents   those among nodes
--- titled         the key of an entry is its directory and its name
--- of_file        the key of a content is its number
--- covers         whether a content gives the byte i of its file
+-- titled              the key of an entry is its directory and its name
+-- of_file             the key of a content is its number
+-- covers              whether a content gives the byte i of its file
 -- number, version     the number that versions are counted for, and the version
--- twin           nodes of one kind, number and version: copies of one node, wherever a mount was accepted
--- Uniq           a mount accepts only that: of one kind, number and version there is one node
+-- twin                nodes of one kind, number and version: copies of one node, wherever a mount was accepted
+-- Uniq                a mount accepts only that: of one kind, number and version there is one node
 use Rattle.std.specs.Prelude.{◌≡◌, ℕ, ◌+◌, ◌-◌, Bool, false, cond, ◌&&◌, List, [], ◌∷◌, ◌==◌, nat_le, nat_lt, slice_index}
 use Rattle.std.specs.Str.{bytes_eq}
 use Rattle.nodes.specs.Records.{Entry, Content}
