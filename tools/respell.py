@@ -3,9 +3,8 @@
 facts and modules in camel case. Run at the top of the repository: python3 tools/respell.py [--list]
 
 A name is ours where a file of specs/ or proofs/ declares it. It keeps its spelling where the file that uses it has it from the
-toolchain, and where the toolchain makes it (goals, steps, invariants). Code, strings and texts keep theirs: in a file of src/
-only clauses, ghost lines and comments are read, in a page only what stands between backticks, and misuse/ and the edits of
-the crates like src/.
+toolchain, and where the toolchain makes it (goals, steps, invariants). Code keeps its names, since none of them has a dash; in a
+file of src/ and in a must-fail edit strings are left out, and in a page only what stands between backticks is read.
 """
 
 import os

@@ -59,8 +59,8 @@ module _ {X : Type 0} (size : ℕ) (mem ys : List X) (b o : ℕ) (inside : o + l
       (λ (below : j < o). over_below mem (b * size + o) ys within (b * size + j) d (omega arith)
       ∙ (sym (at_part size mem b j d l) ∙ sym (over_below (part_of size mem b) o ys f j d below)))
       (λ (above : o ≤ j). ⊎_elim
-      (λ (in-it : j < o + length ys). over_in mem (b * size + o) ys within (b * size + j) d (omega arith) (omega arith)
-      ∙ (ap (λ n. get_or ys n d) (omega arith) ∙ sym (over_in (part_of size mem b) o ys f j d above in-it)))
+      (λ (in_it : j < o + length ys). over_in mem (b * size + o) ys within (b * size + j) d (omega arith) (omega arith)
+      ∙ (ap (λ n. get_or ys n d) (omega arith) ∙ sym (over_in (part_of size mem b) o ys f j d above in_it)))
       (λ (past : o + length ys ≤ j). over_above mem (b * size + o) ys within (b * size + j) d (omega arith)
       ∙ (sym (at_part size mem b j d l) ∙ sym (over_above (part_of size mem b) o ys f j d past)))
       (cases_lt j (o + length ys)))

@@ -39,6 +39,6 @@ any-++ f (x ∷ xs) ys = rw (any-++ f xs ys) (or_assoc (f x) (any f xs) (any f y
     or_assoc true b c = refl
     or_assoc false b c = refl
 
-pub all-of-++ : {R : Type 0} (listed : Block → List R) (bs cs : List Block) → all_of listed (bs ++ cs) ≡ all_of listed bs ++ all_of listed cs
-all-of-++ listed [] cs = refl
-all-of-++ listed (b ∷ bs) cs = rw (all-of-++ listed bs cs) (sym (append_assoc (listed b) (all_of listed bs) (all_of listed cs)))
+pub all_of-++ : {R : Type 0} (listed : Block → List R) (bs cs : List Block) → all_of listed (bs ++ cs) ≡ all_of listed bs ++ all_of listed cs
+all_of-++ listed [] cs = refl
+all_of-++ listed (b ∷ bs) cs = rw (all_of-++ listed bs cs) (sym (append_assoc (listed b) (all_of listed bs) (all_of listed cs)))

@@ -11,7 +11,7 @@ use Rattle.index.specs.declared.block.State.TheVariants.{Spent, Full}
 use Rattle.index.specs.Blocks.{all_of, entries_in, contents_in, all_entries, all_contents}
 use Rattle.index.specs.Missed.{Kept, nodes_in, kept_in, elsewhere, twin_of, need, missed, misses, with_state, changed, marked}
 use Rattle.index.specs.Shown.{entry_shown, span_shown}
-use Rattle.index.proofs.Folds.{all-of-++}
+use Rattle.index.proofs.Folds.{all_of-++}
 
 abbrev full : Block → Block
 full = with_state Full
@@ -98,7 +98,7 @@ module _ (bs : List Block) where
       ap (λ l. any (missed all n) (all_of nodes_in (take 1 l))) (drop_at done (full b ∷ map full rest) n refl)
       ∙ ap (any (missed all n)) (append-nil (nodes_in b))
       ∙ ap (λ l. any (λ m. need all m && not (has_twin twin_of m (kept l))) (nodes_in b)) others
-      ∙ ap (λ l. any (λ m. need all m && not (has_twin twin_of m l)) (nodes_in b)) (all-of-++ (kept_in nodes_in) done (map full rest) ∙ ap (λ l. kept done ++ l) (kept_full rest))
+      ∙ ap (λ l. any (λ m. need all m && not (has_twin twin_of m l)) (nodes_in b)) (all_of-++ (kept_in nodes_in) done (map full rest) ∙ ap (λ l. kept done ++ l) (kept_full rest))
       ∙ unreplaced (need bs) (need all) (kept done ++ pool (map nodes_in rest)) (same_need all bs e) (nodes_in b)
     where
       all : List Block
@@ -139,11 +139,11 @@ module _ (bs : List Block) where
 
     kept_spent : kept (with_one Spent) ≡ kept done
     unfolding with_one
-    kept_spent = all-of-++ (kept_in nodes_in) done (with_state Spent b ∷ []) ∙ append-nil (kept done)
+    kept_spent = all_of-++ (kept_in nodes_in) done (with_state Spent b ∷ []) ∙ append-nil (kept done)
 
     kept_one : kept (with_one Full) ≡ kept done ++ nodes_in b
     unfolding with_one
-    kept_one = all-of-++ (kept_in nodes_in) done (with_state Full b ∷ []) ∙ ap (λ l. kept done ++ l) (append-nil (nodes_in b))
+    kept_one = all_of-++ (kept_in nodes_in) done (with_state Full b ∷ []) ∙ ap (λ l. kept done ++ l) (append-nil (nodes_in b))
 
     step : (i : ℕ) → length done ≡ i → drop (suc i) bs ≡ rest → map full before ≡ map full bs
         → (x : Bool) → misses before i ≡ not x

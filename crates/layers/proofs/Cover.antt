@@ -46,19 +46,19 @@ module _ (xs : List Cell) (o s : ℕ) (held out : List ℕ) (fits : o + length o
       (cases_lt (o + i) s)
       ∙ sym (part_at L o (length out) fits' i l)))
 
-  module _ (n to from : ℕ) (to_is : to ≡ s - o) (from_is : from ≡ o - s) (n-is : n ≡ min (length out - to) (length held - from)) where
+  module _ (n to from : ℕ) (to_is : to ≡ s - o) (from_is : from ≡ o - s) (n_is : n ≡ min (length out - to) (length held - from)) where
     n_out : n ≤ length out - to
-    n_out = omega (arith, n-is, min-le_left (length out - to) (length held - from))
+    n_out = omega (arith, n_is, min-le_left (length out - to) (length held - from))
 
     n_held : n ≤ length held - from
-    n_held = omega (arith, n-is, min-le_right (length out - to) (length held - from))
+    n_held = omega (arith, n_is, min-le_right (length out - to) (length held - from))
 
     -- both rows reach a place only if it is among the n
     reached : (i : ℕ) → i < length out → s ≤ o + i → o + i < s + length held → i - to < n
     reached i h lo hi =
         ⊎_elim
-        (λ (k : length out - to < length held - from). let k' : length out - to ≤ length held - from = omega (arith, k) in omega (arith, n-is, min-eq_left k'))
-        (λ (k : length held - from ≤ length out - to). omega (arith, n-is, min-eq_right k))
+        (λ (k : length out - to < length held - from). let k' : length out - to ≤ length held - from = omega (arith, k) in omega (arith, n_is, min-eq_left k'))
+        (λ (k : length held - from ≤ length out - to). omega (arith, n_is, min-eq_right k))
         (cases_lt (length out - to) (length held - from))
 
     -- they do not meet
@@ -75,11 +75,11 @@ module _ (xs : List Cell) (o s : ℕ) (held out : List ℕ) (fits : o + length o
         let fit : to + length mid ≤ length out = omega (arith, long, n_out, z) in
         covered new (ap length is ∙ over_length out to mid fit)
         (λ i h lo hi.
-        let in-n = reached i h lo hi in
+        let in_n = reached i h lo hi in
         let w : from + (i - to) ≡ o + i - s = omega arith in
         ap (λ (x : List ℕ). get_or x i 0) is
-        ∙ (over_in out to mid fit i 0 (omega arith) (omega (arith, long, in-n))
-        ∙ (get_or-take n (drop from held) (i - to) 0 in-n ∙ (get_or-drop from held (i - to) 0 ∙ ap (λ (x : ℕ). get_or held x 0) w))))
+        ∙ (over_in out to mid fit i 0 (omega arith) (omega (arith, long, in_n))
+        ∙ (get_or-take n (drop from held) (i - to) 0 in_n ∙ (get_or-drop from held (i - to) 0 ∙ ap (λ (x : ℕ). get_or held x 0) w))))
         (λ i h w.
         ap (λ (x : List ℕ). get_or x i 0) is
         ∙ ⊎_elim

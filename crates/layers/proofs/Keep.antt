@@ -62,7 +62,7 @@ module _ (m : Meaning) (bear : Bearing m) (b o : ℕ) where
 
   -- bytes over buffered the held ones
   module _ (held run : List ℕ) (long : length held ≡ m.batch) (there : b < m.blocks) (within : start + m.batch ≤ m.size) (low : m.mark b ≤ start)
-      (in-batch : o - start + length run ≤ m.batch) where
+      (in_batch : o - start + length run ≤ m.batch) where
     abbrev held' : List ℕ
     held' = over held (o - start) run
 
@@ -148,7 +148,7 @@ module _ (m : Meaning) (bear : Bearing m) (b o : ℕ) where
             let L' = over (m.shown b) start (cells held') in
             let y = over (shows m st held b) o (cells run) in
             let z : (o + length run) / m.batch * m.batch ≡ start = start_is m.batch (has_batch m bear) start (o + length run) start_starts (omega (arith, from)) (omega (arith, from)) in
-            let shown-is : (i : ℕ) → shows m st' held' i ≡ with_at (shows m st held) b y i =
+            let shown_is : (i : ℕ) → shows m st' held' i ≡ with_at (shows m st held) b y i =
             λ i. near_shows held' long' st' hold' near' there within low i
             ∙ (sym (mine_shown m bear held long b st (near_mine st m.batch b o near) L' i) ∙ ap (λ (x : List Cell). with_at (shows m st held) b x i) lay_shown) in
             let keeps : mixed ((o + length run) / m.batch * m.batch) y (m.settled b) ≡ m.settled b =
@@ -167,7 +167,7 @@ module _ (m : Meaning) (bear : Bearing m) (b o : ℕ) where
               size = m.size;
               page = 4;
               batch = m.batch;
-              shown = λ i. shown-is i u;
+              shown = λ i. shown_is i u;
               settled = λ i. settled_is i u;
               mark = λ i. mark_is i u;
               power = m.power;

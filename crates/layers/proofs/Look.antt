@@ -127,13 +127,13 @@ module _ {ok : Type 0} (m : Meaning) (batch : ℕ) (st : State) (held : List ℕ
       let g = fetched mid f in
       let p = place_inside m b o (length old) (none_place m b o (length old) g.0) in
       let fill : Fills m b t (take batch held) = subst (λ (x : State). Holding m x (take batch held)) e s.holding in
-      let X-long = s.bears.sane.shown_length b p.there in
-      let mid-long : length mid ≡ length old = sym (length-map mid byte) ∙ (ap length g.1 ∙ part_long (m.shown b) o (length old) (omega (arith, X-long, p.fits))) in
+      let X_long = s.bears.sane.shown_length b p.there in
+      let mid_long : length mid ≡ length old = sym (length-map mid byte) ∙ (ap length g.1 ∙ part_long (m.shown b) o (length old) (omega (arith, X_long, p.fits))) in
       let at_b : shows m st (take batch held) b ≡ over (m.shown b) t (cells (take batch held)) =
       ap (λ (x : State). shows m x (take batch held) b) e ∙ here m.shown b _ in
       Fetched.done (same ∙ g.0) refl
-      (cover (m.shown b) (omega (arith, mid-long, X-long, p.fits)) (omega (arith, long, X-long, fill.within)) (g.1 ∙ ap (part (m.shown b) o) (sym mid-long))
-      ∙ (ap (part (over (m.shown b) t (cells (take batch held))) o) mid-long ∙ ap (λ (x : List Cell). part x o (length old)) (sym at_b)))
+      (cover (m.shown b) (omega (arith, mid_long, X_long, p.fits)) (omega (arith, long, X_long, fill.within)) (g.1 ∙ ap (part (m.shown b) o) (sym mid_long))
+      ∙ (ap (part (over (m.shown b) t (cells (take batch held))) o) mid_long ∙ ap (λ (x : List Cell). part x o (length old)) (sym at_b)))
 
 -- of a batch that an array begins with
 pub covers_first : (g : ℕ) (held : List ℕ) (t o : ℕ) (mid new : List ℕ)

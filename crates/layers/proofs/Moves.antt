@@ -93,7 +93,7 @@ module _ (m : Meaning) (bear : Bearing m) (st : State) (held : List ℕ) (long :
     offset_is : o - start m bear b o ≡ o % m.batch
     offset_is = omega (arith, div-add-mod' o m.batch)
 
-    module _ (near : Near st m.batch b o) (bytes : 0 < length run) (in-batch : o % m.batch + length run ≤ m.batch) where
+    module _ (near : Near st m.batch b o) (bytes : 0 < length run) (in_batch : o % m.batch + length run ≤ m.batch) where
       within : start m bear b o + m.batch ≤ m.size
       within = start_within m bear b o (omega (arith, fits))
 
@@ -179,14 +179,14 @@ module _ (m : Meaning) (bear : Bearing m) (held : List ℕ) (long : length held 
       let fit : o + 0 ≤ m.size = a.fits in
       let ends : (s + length held) / m.batch * m.batch ≡ s + length held = rw long (next_is m.batch (has_batch m bear) s f.starts) in
       let whole : length held % m.batch ≡ 0 = rw long (mod_self m.batch) in
-      let lies-s : s + length held ≤ m.size = omega (arith, long, f.within) in
+      let lies_s : s + length held ≤ m.size = omega (arith, long, f.within) in
       let same : over (m.shown b) s (cells held) ≡ over (shows m (Filling c s) held b) o [] =
       sym (over_none (shows m (Filling c s) held b) o
       ∙ ((λ u. with_at m.shown (q u) (over (m.shown (q u)) s (cells held)) b) ∙ here m.shown b (over (m.shown b) s (cells held)))) in
-      sent m bear held long b (Filling c s) f o [] q a.there fit a.above s held ends (omega (arith, long, far)) lies-s same
+      sent m bear held long b (Filling c s) f o [] q a.there fit a.above s held ends (omega (arith, long, far)) lies_s same
       (λ k z lo hi. held_concerns c s f q k lo hi)
       r n rest sane
-      (below_accepted m bear held long b (Filling c s) o 0 a s (length held) f.starts whole lies-s (omega (arith, ap m.mark q, f.above)))
+      (below_accepted m bear held long b (Filling c s) o 0 a s (length held) f.starts whole lies_s (omega (arith, ap m.mark q, f.above)))
       (subst (λ (x : ℕ). Programmed m x s held r n) q p)
 
 shape_programmed : (m : Meaning) (b o : ℕ) (run : List ℕ) (k : ℕ) → ((programmed m b o run k).page ≡ m.page) × ((programmed m b o run k).batch ≡ m.batch)

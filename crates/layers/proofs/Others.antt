@@ -74,7 +74,7 @@ module _ (m : Meaning) (b : ℕ) where
     unfolding buffered erased
     erased_other c s ne =
         let there : with_at m.shown b (blank m.size) c ≡ m.shown c = elsewhere m.shown b (blank m.size) c ne in
-        let shown-is : (i : ℕ) → with_at (with_at m.shown b (blank m.size)) c (over (with_at m.shown b (blank m.size) c) s (cells held)) i
+        let shown_is : (i : ℕ) → with_at (with_at m.shown b (blank m.size)) c (over (with_at m.shown b (blank m.size) c) s (cells held)) i
         ≡ with_at (with_at m.shown c (over (m.shown c) s (cells held))) b (blank m.size) i =
         λ i. ap (λ (x : List Cell). with_at (with_at m.shown b (blank m.size)) c (over x s (cells held)) i) there
         ∙ swap m.shown c (over (m.shown c) s (cells held)) (blank m.size) ne i in
@@ -86,7 +86,7 @@ module _ (m : Meaning) (b : ℕ) where
           size = m.size;
           page = 4;
           batch = m.batch;
-          shown = λ i. shown-is i u;
+          shown = λ i. shown_is i u;
           settled = λ i. with_at m.settled b (blank m.size) i;
           mark = λ i. mark_is i u;
           power = m.power;

@@ -90,11 +90,11 @@ module _ (m : Meaning) (bear : Bearing m) (held : List ℕ) (long : length held 
   -- a run of whole batches at t goes down for a run of the layer's at o
   module _ (st : State) (hold : Holding m st held) (o : ℕ) (run : List ℕ) (mine : Mine st b) (there : b < m.blocks) (fits : o + length run ≤ m.size) (top : marks m st held b ≤ o)
       (t : ℕ) (down : List ℕ) (ends : (t + length down) / m.batch * m.batch ≡ t + length down) (reach : t + length down ≤ o + length run)
-      (lies-t : t + length down ≤ m.size)
+      (lies_t : t + length down ≤ m.size)
       (same : over (m.shown b) t (cells down) ≡ over (shows m st held b) o (cells run))
       (concerns : (c : ℕ) → 0 < length down → c * m.batch < t + length down → t < c * m.batch + m.batch → Concerned (buffered m st held) b o (length run) c) where
     down_fits : t + length (cells down) ≤ length (m.shown b)
-    down_fits = rw (length-map down byte, bear.sane.shown_length b there) lies-t
+    down_fits = rw (length-map down byte, bear.sane.shown_length b there) lies_t
 
     back : (k : ℕ) → t + length down ≤ k → mixed k (over (m.shown b) t (cells down)) (m.settled b) ≡ over (m.shown b) t (cells down)
     back k h =
@@ -108,7 +108,7 @@ module _ (m : Meaning) (bear : Bearing m) (held : List ℕ) (long : length held 
     unfolding buffered programmed
     programmed_over k rest =
         let w = over (m.shown b) t (cells down) in
-        let shown-is : (i : ℕ) → with_at m.shown b w i ≡ with_at (shows m st held) b (over (shows m st held b) o (cells run)) i =
+        let shown_is : (i : ℕ) → with_at m.shown b w i ≡ with_at (shows m st held) b (over (shows m st held b) o (cells run)) i =
         λ i. sym (mine_shown st mine w i) ∙ ap (λ (x : List Cell). with_at (shows m st held) b x i) same in
         let both : mixed ((t + length down) / m.batch * m.batch) w (m.settled b) ≡ mixed ((o + length run) / m.batch * m.batch) (over (shows m st held b) o (cells run)) (m.settled b) =
         back ((t + length down) / m.batch * m.batch) (omega (arith, ends))
@@ -122,7 +122,7 @@ module _ (m : Meaning) (bear : Bearing m) (held : List ℕ) (long : length held 
           size = m.size;
           page = 4;
           batch = m.batch;
-          shown = λ i. shown-is i u;
+          shown = λ i. shown_is i u;
           settled = λ i. with_at m.settled b (both u) i;
           mark = λ i. mark_is i u;
           power = m.power;

@@ -75,8 +75,8 @@ module _ {ok : Type 0} (m : Meaning) (batch : ℕ) (st : State) (held : List ℕ
       pub tells_down : st ≡ Empty → o % batch ≡ 0 → length run % batch ≡ 0 → Programmed m b o run r n → Sound ok' n batch st held × Goes (buffered m st (take batch held)) b o run r (buffered n st (take batch held))
       tells_down e z w p =
           let a = bears_after m n b o run r s.bears sane p in
-          let used-none : used (take batch held) ≡ 0 = subst (λ (x : State). Holding m x (take batch held)) e s.holding in (
-            subst (λ (x : State). Sound ok' n batch x held) (sym e) (record { below = k; bears = a.0; same = a.1 ∙ s.same; holding = used-none }),
+          let used_none : used (take batch held) ≡ 0 = subst (λ (x : State). Holding m x (take batch held)) e s.holding in (
+            subst (λ (x : State). Sound ok' n batch x held) (sym e) (record { below = k; bears = a.0; same = a.1 ∙ s.same; holding = used_none }),
             subst (λ (x : State). Goes (buffered m st (take batch held)) b o run r (buffered n x (take batch held))) (sym e)
                 (goes_down m s.bears st (take batch held) long s.holding b o run none e (rw s.same z) (rw s.same w) r n (take batch held) sane p),
           )

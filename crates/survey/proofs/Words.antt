@@ -78,7 +78,7 @@ module _ (m : Meaning) (b : ℕ) (old : List ℕ) (fs : List Bool) (F : Fits m b
       here : shown_at m b (i * 4 + k.0) ≡ lost
       here = sym (get_or-take 4 (drop (i * 4) (m.shown b)) k.0 lost short ∙ get_or-drop (i * 4) (m.shown b) k.0 lost) ∙ k.2
 
-  module _ (bs : List ℕ) (gs : List Bool) (i : ℕ) (room : i * 4 + 4 ≤ length bs) (flag-room : i < length gs) (whole : length bs ≡ length old) where
+  module _ (bs : List ℕ) (gs : List Bool) (i : ℕ) (room : i * 4 + 4 ≤ length bs) (flag_room : i < length gs) (whole : length bs ≡ length old) where
     word_read : (flag : Bool) (word : List ℕ) → length word ≡ 4 → WordRead m b (i * 4) (take 4 (drop (i * 4) bs)) flag word
         → (j : ℕ) → i * 4 ≤ j → j < i * 4 + 4 → cond flag (byte (get_or word (j - i * 4) 0)) lost ≡ shown_at m b j
     word_read flag word n (can f c) j from to =
@@ -108,7 +108,7 @@ module _ (m : Meaning) (b : ℕ) (old : List ℕ) (fs : List Bool) (F : Fits m b
             ∙ ap (λ x. cond (get_or gs (j / 4) false) (byte x) lost) (ap (λ l. get_or l j 0) N.bytes ∙ over_below bs (i * 4) N.word (omega (arith, N.long)) j 0 l)
             ∙ so_far j l
         go (no l) =
-            ap (λ f. cond f (byte (get_or new j 0)) lost) (ap (λ k. get_or (set gs i N.flag) k false) (let e : j / 4 ≡ i = omega arith in e) ∙ get_or-set_same gs i N.flag false flag-room)
+            ap (λ f. cond f (byte (get_or new j 0)) lost) (ap (λ k. get_or (set gs i N.flag) k false) (let e : j / 4 ≡ i = omega arith in e) ∙ get_or-set_same gs i N.flag false flag_room)
             ∙ ap (λ x. cond N.flag (byte x) lost) (ap (λ l. get_or l j 0) N.bytes ∙ over_in bs (i * 4) N.word (omega (arith, N.long)) j 0 (omega arith) (omega (arith, N.long)))
             ∙ word_read N.flag N.word N.long N.read j (omega arith) to
 

@@ -3,7 +3,7 @@ use Rattle.tree.specs.Newest.{any}
 use Rattle.index.specs.declared.block.Block.{Block}
 use Rattle.index.specs.Blocks.{all_of}
 use Rattle.index.specs.Missed.{kept_in, elsewhere}
-use Rattle.index.proofs.Folds.{folded_any, any-++, all-of-++}
+use Rattle.index.proofs.Folds.{folded_any, any-++, all_of-++}
 use Rattle.index.proofs.spent.has_twin.Goals as goal
 
 -- a test of some record, first in some blocks and then in others
@@ -13,7 +13,7 @@ in_both f listed bs cs =
     folded_any f _ (all_of listed cs)
     ∙ ap (λ b. b || any f (all_of listed cs)) (folded_any f false (all_of listed bs))
     ∙ sym (any-++ f (all_of listed bs) (all_of listed cs))
-    ∙ ap (any f) (sym (all-of-++ listed bs cs))
+    ∙ ap (any f) (sym (all_of-++ listed bs cs))
 
 pub returns : goal.returns
 returns g c =
