@@ -1,7 +1,7 @@
 -- What stands at a place, as the reader decides it step by step from the bytes of the block from there on.
 use Rattle.std.proofs.Common.{◌≡◌, ℕ, ◌<◌, ◌≤◌, Bool, true, false, cond, eqb, leb, List, length, take, Some, None, Option, Bor, sym, refl, ap, ◌∙◌, subst, arith, length-take}
 use Rattle.std.proofs.lemmas.List.{length-take-le}
-use Rattle.std.proofs.lemmas.Bool.{leb-true, leb-false, le-leb, lt-leb, eq-eqb, cond-true, cond-false}
+use Rattle.std.proofs.lemmas.Bool.{leb-true, leb-false, le-leb, lt-leb, eq-eqb, ne_eqb, cond-true, cond-false}
 use Rattle.std.specs.Bool.{then_some}
 use Rattle.flash.specs.Cells.{front}
 use Rattle.kinds.specs.declared.Kind.TheVariants as kinds
@@ -58,12 +58,15 @@ front_some t n r b f e h l k = subst (IsFront t n) (sym e) (go b (sym (h ∙ rea
     go true e = (e, k)
     go false e = e
 
--- the word that the code reads of the first four bytes
-pub word_read : (bs word : List ℕ) → word ≡ take 4 bs → le32 word 0 ≡ le32 bs 0
-word_read bs word e = ap (λ w. le32 w 0) e ∙ le32_cut bs 4 0 (omega arith)
+-- the word w that the code reads of the first four bytes
+pub word_read : (bs : List ℕ) {word : List ℕ} {w : ℕ} → word ≡ take 4 bs → w ≡ le32 word 0 → w ≡ le32 bs 0
+word_read bs e r = r ∙ ap (λ s. le32 s 0) e ∙ le32_cut bs 4 0 (omega arith)
 
-pub word_long : (fs : List Bool) (at : ℕ) (bs word : List ℕ) → (reaching fs at bs 4 ≡ true) × (word ≡ take 4 bs) → 4 ≤ length word
-word_long fs at bs word f = let l = reaching_length fs at bs 4 f.0 in omega (arith, ap length f.1, length-take-le 4 bs l)
+pub word_other : (bs : List ℕ) {word : List ℕ} {w : ℕ} → word ≡ take 4 bs → w ≡ le32 word 0 → (w ≡ 0 → ⊥) → is_word bs ≡ false
+word_other bs e r n = ne_eqb _ 0 (λ z. n (word_read bs e r ∙ z))
+
+pub word_long : (fs : List Bool) (at : ℕ) (bs : List ℕ) {word : List ℕ} → (reaching fs at bs 4 ≡ true) × (word ≡ take 4 bs) → 4 ≤ length word
+word_long fs at bs f = let l = reaching_length fs at bs 4 f.0 in omega (arith, ap length f.1, length-take-le 4 bs l)
 
 pub none_word : (fs : List Bool) (at : ℕ) (bs : List ℕ) → reaching fs at bs 4 ≡ false → None ≡ sized (stands (seen_from fs at bs))
 none_word fs at bs e = sym (ap sized (stands_is fs at bs ∙ none_short (length bs) bs (got fs at bs) (leb-false _ _ e)))
