@@ -84,23 +84,23 @@ none_head fs at bs r w e =
 
 none_passing : (a b : Bool) (h : Head) → a ≡ true → None ≡ cond a (cond b (Some h) None) None → b ≡ false
 none_passing a false h t e = refl
-none_passing true true h t e = absurd (let z : ◌≡◌ {A = ℕ} 0 1 = cc in omega arith)
-none_passing false true h t e = absurd (let z : ◌≡◌ {A = ℕ} 0 1 = cc in omega arith)
+none_passing true true h t e = cc
+none_passing false true h t e = cc
 
 some_passing : (a b : Bool) (g h : Head) → Some g ≡ cond a (cond b (Some h) None) None → (b ≡ true) × (g ≡ h)
 some_passing true true g h e = (refl, cc)
-some_passing true false g h e = absurd (let z : ◌≡◌ {A = ℕ} 0 1 = cc in omega arith)
-some_passing false b g h e = absurd (let z : ◌≡◌ {A = ℕ} 0 1 = cc in omega arith)
+some_passing true false g h e = cc
+some_passing false b g h e = cc
 
 pub passing_some : (bs : List ℕ) (h : Head) → Some h ≡ passing bs → (all (header (length bs) bs) ≡ true) × (h ≡ head bs)
 passing_some bs h e = some_passing (leb 12 (length bs)) (all (header (length bs) bs)) h (head bs) e
 
 given : {X : Type 0} (it : Item) (b : Bool) (e x : X) (v : X → View) → view it ≡ v x → Some e ≡ cond b (Some x) None → Some (v e) ≡ viewed (cond b (Some it) None)
 given it true e x v w h = cc
-given it false e x v w h = absurd (let z : ◌≡◌ {A = ℕ} 0 1 = cc in omega arith)
+given it false e x v w h = cc
 
 none_given : {X : Type 0} (it : Item) (b : Bool) (x : X) → None ≡ cond b (Some x) None → None ≡ viewed (cond b (Some it) None)
-none_given it true x h = absurd (let z : ◌≡◌ {A = ℕ} 0 1 = cc in omega arith)
+none_given it true x h = cc
 none_given it false x h = refl
 
 -- a place that is no zero word, and of which the header can be read
@@ -111,7 +111,7 @@ module _ (fs : List Bool) (at : ℕ) (bs : List ℕ) (twelve : reaching fs at bs
       sym (ap sized (stands_is fs at bs ∙ none_bad (length bs) bs (got fs at bs) (leb-true _ _ twelve) (got_within fs at bs) other b))
 
   sizes : (o : Option Item) → stands (seen_from fs at bs) ≡ o → (v : View) (n : ℕ) → Some v ≡ viewed o → n ≡ padded (totlen bs) → Some (v, n) ≡ sized o
-  sizes None s v n e p = absurd (let z : ◌≡◌ {A = ℕ} 0 1 = cc in omega arith)
+  sizes None s v n e p = cc
   sizes (Some it) s v n e p =
       let c = offered_cut (length bs) bs (got fs at bs) (leb-true _ _ twelve) (got_within fs at bs) other it (sym (stands_is fs at bs) ∙ s) in
       let r = reach_more bs other in
@@ -129,7 +129,7 @@ module _ (fs : List Bool) (at : ℕ) (bs : List ℕ) (twelve : reaching fs at bs
     where
       go : (o : Option Item) → None ≡ viewed o → None ≡ sized o
       go None e = refl
-      go (Some it) e = absurd (let z : ◌≡◌ {A = ℕ} 0 1 = cc in omega arith)
+      go (Some it) e = cc
 
 -- a place with a header that passes
 module _ {fs : List Bool} {at : ℕ} {bs : List ℕ} {h : Head} (headed : Headed fs at bs h) where
