@@ -25,7 +25,7 @@ use Rattle.nodes.proofs.Viewed.{kind_known, kind_unknown, view_word, view_kind, 
 abbrev got : List Bool → ℕ → List ℕ → ℕ
 got fs at bs = length (front (seen_from fs at bs))
 
-pub got_within : (fs : List Bool) (at : ℕ) (bs : List ℕ) → got fs at bs ≤ length bs
+got_within : (fs : List Bool) (at : ℕ) (bs : List ℕ) → got fs at bs ≤ length bs
 got_within fs at bs = omega (arith, ap length (front_seen fs at bs), length-take (got fs at bs) bs)
 
 front_part : (fs : List Bool) (at : ℕ) (bs : List ℕ) (n : ℕ) → n ≤ got fs at bs → take n (front (seen_from fs at bs)) ≡ take n bs

@@ -24,7 +24,7 @@ alike_take (suc n) (byte a ∷ xs) (byte b ∷ ys) e = go (alike_take n xs ys) (
     go below true t e = let h = below e in let s = eqb-true a b t in cc
     go below false t e = cc
 
-pub alike_cells : (bs : List ℕ) (ys : List Cell) → take (length bs) ys ≡ cells bs → alike (length bs) (cells bs) ys ≡ true
+alike_cells : (bs : List ℕ) (ys : List Cell) → take (length bs) ys ≡ cells bs → alike (length bs) (cells bs) ys ≡ true
 unfolding alike
 alike_cells [] ys e = refl
 alike_cells (b ∷ bs) [] e = cc

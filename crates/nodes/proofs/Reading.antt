@@ -1,13 +1,16 @@
 -- A reader's start and its steps, against the walk.
 use Rattle.std.proofs.Common.{◌≡◌, ℕ, ◌+◌, ◌-◌, ◌<◌, ◌≤◌, Bool, true, false, cond, List, [], ◌∷◌, length, map, take, drop, Some, None, Option, sym, refl, ap, ◌∙◌, arith, length-drop}
 use Rattle.std.proofs.lemmas.List.{take_rest}
+use Rattle.std.proofs.lemmas.Iterator.{YieldsList}
+use Rattle.std.proofs.lemmas.Iterator.Consumers.{YieldsList-from_shown}
 use Rattle.flash.specs.Cells.{Cell}
 use Rattle.nodes.specs.Items.{Item, stands, size}
 use Rattle.nodes.specs.Seen.{seen, seen_from}
 use Rattle.nodes.specs.Views as views
 use Rattle.nodes.specs.Views.{View, view}
 use Rattle.nodes.specs.Walk.{walk, walk_from, marked}
-use Rattle.nodes.specs.Reading.{found_at, first_of, behind}
+use Rattle.nodes.specs.declared.reader.Reader.{Reader}
+use Rattle.nodes.specs.Reading.{rest, found_at, to_find, first_of, behind, found_as, HandsOut}
 use Rattle.nodes.proofs.Standing.{stands_reads, sized}
 use Rattle.nodes.proofs.Walks.{item_at, none_at}
 use Rattle.nodes.proofs.Marks.{walk_marked, walk_bare}
@@ -65,3 +68,13 @@ stop xs p c e = go (stands (drop p xs)) refl (e ∙ ap (λ l. views.sized (stand
 pub start : (xs : List Cell) (b : Bool) (p : ℕ) → b ≡ marked xs → p ≡ cond b 0 (length xs) → walk_from xs p ≡ walk xs
 start xs true p m e = ap (walk_from xs) e ∙ sym (walk_marked xs (sym m))
 start xs false p m e = walk_end xs p (omega arith) ∙ sym (walk_bare xs (sym m))
+
+-- a reader with nothing left
+pub none_left : (r : Reader) → rest r ≡ [] → HandsOut r None r
+none_left r e =
+    let none : to_find r ≡ [] = ap (map (found_at r.block)) e in
+    record { yields = (none, none); first = sym (ap (first_of r.block) e); others = e ∙ sym (ap behind e); block = refl; image = refl }
+
+-- what a reader hands out up to the end
+pub finds_all : (r : Reader) → YieldsList HandsOut found_as r (to_find r)
+finds_all r = YieldsList-from_shown HandsOut found_as to_find (λ s t h. ap length h.yields.0) (λ s f t h. h.yields) r
