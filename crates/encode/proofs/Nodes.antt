@@ -1,5 +1,5 @@
 -- The bytes of entries and contents, put part by part.
-use Rattle.std.proofs.Common.{◌≡◌, ℕ, ◌+◌, ◌*◌, ◌/◌, ◌%◌, ◌<◌, ◌≤◌, List, [], ◌∷◌, ◌++◌, length, take, sym, refl, ap, ◌∙◌, append_assoc, mod-eq_of_lt, arith}
+use Rattle.std.proofs.Common.{◌≡◌, ℕ, ◌+◌, ◌*◌, ◌/◌, ◌%◌, ◌<◌, List, [], ◌∷◌, ◌++◌, length, take, sym, ap, ◌∙◌, append_assoc, mod-eq_of_lt, arith}
 use Rattle.std.proofs.lemmas.List.{length-append}
 use Rattle.crc32.specs.Sum.{sum}
 use Rattle.flash.specs.Cells.{over}
@@ -35,15 +35,14 @@ module _ (k m n : ℕ) (xs hw ws os ps : List ℕ) (eh : spread hw ≡ head k m)
   front_put = over_then xs (spread hw) (spread ws) os ps 12 o (sym (ap length eh ∙ head_length k m)) p ∙ ap (λ v. over xs 0 (v ++ spread ws)) eh
 
   pub node_put : (s t : ℕ) (sums : ℕ → ℕ → List ℕ) (ts bs qs rs : List ℕ) → s ≡ sum (take n ps) → t ≡ sum bs → ts ≡ sums s t → length ts ≡ 2
-      → qs ≡ over ps n (spread ts) → rs ≡ over qs (n + 8) bs → (rs ≡ over xs 0 (node_item k m ws sums bs)) × (length (node_item k m ws sums bs) ≡ n + 8 + length bs)
+      → qs ≡ over ps n (spread ts) → rs ≡ over qs (n + 8) bs → rs ≡ over xs 0 (node_item k m ws sums bs)
   node_put s t sums ts bs qs rs es et e l q r =
       let front = head k m ++ spread ws in
       let long : length (front ++ spread ts) ≡ n + 8 = length-append front (spread ts) ∙ (let w = words_length ts in let f = front_length in omega arith) in
       let put : qs ≡ over xs 0 (front ++ spread ts) = over_then xs front (spread ts) ps qs n front_put (sym front_length) q in
       let is : ts ≡ sums (sum front) (sum bs) = e ∙ ap (λ v. sums v t) (es ∙ ap sum (over_taken xs front ps n front_put front_length)) ∙ ap (sums (sum front)) et in
-      let item : (front ++ spread ts) ++ bs ≡ node_item k m ws sums bs = append_assoc front (spread ts) bs ∙ ap (λ v. front ++ (spread v ++ bs)) is in
-      (over_then xs (front ++ spread ts) bs qs rs (n + 8) put (sym long) r ∙ ap (over xs 0) item,
-      ap length (sym item) ∙ length-append (front ++ spread ts) bs ∙ omega arith)
+      over_then xs (front ++ spread ts) bs qs rs (n + 8) put (sym long) r
+      ∙ ap (over xs 0) (append_assoc front (spread ts) bs ∙ ap (λ v. front ++ (spread v ++ bs)) is)
 
 pub entry_made : (x : Entry) → EntryFits x → entry_item x ≡ node_item 0xE001 (40 + length x.name) (entry_words x (length x.name)) entry_sums x.name
 unfolding entry_item entry32 spread

@@ -1,7 +1,7 @@
 -- Bytes laid over others, part by part.
 use Rattle.std.proofs.Common.{◌≡◌, ℕ, ◌+◌, ◌*◌, ◌/◌, ◌%◌, ◌<◌, ◌≤◌, List, [], ◌∷◌, ◌++◌, length, get_or, take, drop, sym, refl, ap, ◌∙◌, append_assoc, add-zero, zero-add, arith}
 use borrow.Rule.Slice.PartMut.{put_mid}
-use Rattle.std.proofs.lemmas.List.{take_at, drop_at, drop-drop, length-append, length-take-le, take_more, take-append-drop, take_all, flat_map_more}
+use Rattle.std.proofs.lemmas.List.{take_at, drop_at, drop-drop, length-append, length-take-le, take_more, take-append-drop, flat_map_more}
 use Rattle.std.proofs.lemmas.Nat.{shr-shr}
 use Rattle.crc32.specs.Sum.{sum}
 use Rattle.flash.specs.Cells.{over}
@@ -46,9 +46,6 @@ words_more xs at ws i os bs h l o b =
     ∙ over_next xs at (spread (take i ws)) bs (at + 4 * i) h (omega arith)
     ∙ ap (λ l. over xs at (spread (take i ws) ++ l)) b
     ∙ ap (over xs at) (sym (words_push (take i ws) (get_or ws i 0)) ∙ ap spread (sym (take_more ws i 0 l)))
-
-pub words_all : (xs : List ℕ) (at : ℕ) (ws : List ℕ) (i : ℕ) (os : List ℕ) → length ws ≤ i → os ≡ over xs at (spread (take i ws)) → os ≡ over xs at (spread ws)
-words_all xs at ws i os l o = o ∙ ap (λ v. over xs at (spread v)) (take_all i ws l)
 
 -- nothing laid over
 pub over_none : (xs : List ℕ) (at : ℕ) → xs ≡ over xs at (spread [])

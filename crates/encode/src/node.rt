@@ -13,7 +13,7 @@ ghost use Rattle.encode.specs.Laws.{EntryTrip, ContentTrip};
 ghost use Rattle.encode.specs.Made.{ItemMade};
 ghost use Rattle.encode.specs.Node.{node_item, entry_words, entry_sums, content_words, content_sums};
 
-use crate::words::{header, put, put_words, put_zeros};
+use crate::words::{header, put_words};
 use crc32::sum_of;
 use kinds::Kind;
 use nodes::record::{Content, Entry};
@@ -48,6 +48,7 @@ pub trait Node<const WORDS: usize, const MOST: usize> {
     // The bytes behind the sums, which decide how large the node is.
     fn held(&self) -> &[u8]
         ensures value { result.now ≡ held self.now }
+        ensures long { length (item self.now) ≡ 20 + 4 * WORDS + length (held self.now) }
         ensures sized { length (held self.now) ≤ MOST → size (item self.now) ≡ padded (20 + 4 * WORDS + length (held self.now)) };
 
     ghost small: { (WORDS < 256) × (MOST < 65536) };
@@ -149,7 +150,6 @@ fn put_node<const WORDS: usize, const MOST: usize, N: Node<WORDS, MOST>>(node: &
     requires short { length (N.held node.now) ≤ MOST }
     requires room { 20 + 4 * WORDS + length (N.held node.now) ≤ length out.old }
     ensures bytes { out.new ≡ over out.old 0 (N.item node.now) }
-    ensures length { length (N.item node.now) ≡ 20 + 4 * WORDS + length (N.held node.now) }
     ensures trip { N.trip node.now }
 {
     let held = node.held();
@@ -159,7 +159,7 @@ fn put_node<const WORDS: usize, const MOST: usize, N: Node<WORDS, MOST>>(node: &
     put_words(out, 12, &node.words(held.len() as u16));
     let before = sum_of(&out[..sums]);
     put_words(out, sums, &node.sums(before, sum_of(held)));
-    put(out, sums + 8, held);
+    out[sums + 8..end].copy_from_slice(held);
 }
 
 // Makes a node at the front of `out` and answers its size on a block; refuses a name or data above the most bytes, and want of
@@ -181,6 +181,6 @@ pub fn encode<const WORDS: usize, const MOST: usize, N: Node<WORDS, MOST>>(
         return None;
     }
     put_node(node, out);
-    put_zeros(out, end, size);
+    out[end..size].fill(0);
     Some(size)
 }
