@@ -38,8 +38,7 @@ pub trait Node<const WORDS: usize, const MOST: usize> {
     // The words from the header up to the sums, where n bytes are held.
     fn words(&self, n: u16) -> [u32; WORDS]
         ensures value { result ≡ words self.now n }
-        ensures made { length (held self.now) ≤ MOST → item self.now ≡ node_item kind (20 + 4 * WORDS + length (held self.now)) (words self.now (length (held self.now))) sums (held self.now) }
-        ensures trip { length (held self.now) ≤ MOST → sum (held self.now) < 2 ^ 32 → trip self.now };
+        ensures made { length (held self.now) ≤ MOST → (item self.now ≡ node_item kind (20 + 4 * WORDS + length (held self.now)) (words self.now (length (held self.now))) sums (held self.now)) × (sum (held self.now) < 2 ^ 32 → trip self.now) };
 
     // The sums of what stands before them and of what is held, in the order of this kind.
     fn sums(&self, before: u32, behind: u32) -> [u32; 2]

@@ -1,16 +1,12 @@
-use Rattle.std.proofs.Common.{◌≤◌, length, arith, rules}
+use Rattle.std.proofs.Common.{arith}
 use Rattle.nodes.specs.Shown.{entry_shown}
 use Rattle.encode.specs.Encode.{EntryFits}
 use Rattle.encode.proofs.Entries.{entry_trip}
 use Rattle.encode.proofs.Nodes.{entry_made}
 use Rattle.encode.proofs.node.EntryNode532.words.Goals as goal
 
-pub returns : goal.returns
-returns c =
+pub returns-clause-made : goal.returns-clause-made
+returns-clause-made c = λ h.
     let x = entry_shown c.args.self.now in
-    let fits : length x.name ≤ 32 → EntryFits x = λ h. record { pino = omega arith; version = omega arith; ino = omega arith; dtype = omega arith; short = h } in
-    record {
-      value = search rules;
-      made = λ h. entry_made x (fits h);
-      trip = λ h. entry_trip x (fits h);
-    }
+    let fits : EntryFits x = record { pino = omega arith; version = omega arith; ino = omega arith; dtype = omega arith; short = h } in
+    (entry_made x fits, entry_trip x fits)
