@@ -1,7 +1,8 @@
 -- What stands at a place, as the reader decides it step by step from the bytes of the block from there on.
-use Rattle.std.proofs.Common.{◌≡◌, ℕ, ◌<◌, ◌≤◌, Bool, true, false, cond, eqb, leb, List, length, take, Some, None, Option, sym, refl, ap, ◌∙◌, arith, length-take}
+use Rattle.std.proofs.Common.{◌≡◌, ℕ, ◌<◌, ◌≤◌, Bool, true, false, cond, eqb, leb, List, length, take, Some, None, Option, Bor, sym, refl, ap, ◌∙◌, subst, arith, length-take}
 use Rattle.std.proofs.lemmas.List.{length-take-le}
 use Rattle.std.proofs.lemmas.Bool.{leb-true, leb-false, le-leb, lt-leb, eq-eqb, cond-true, cond-false}
+use Rattle.std.specs.Bool.{then_some}
 use Rattle.flash.specs.Cells.{front}
 use Rattle.kinds.specs.declared.Kind.TheVariants as kinds
 use Rattle.kinds.specs.Kinds.{kind_with}
@@ -11,10 +12,13 @@ use Rattle.nodes.specs.Records.{Entry, Content, read_entry, read_content}
 use Rattle.nodes.specs.Headers.{Head, head, passing, Headed}
 use Rattle.nodes.specs.Passing.{entry_in, content_in}
 use Rattle.nodes.specs.Seen.{seen_from, readable, reaching}
+use Rattle.nodes.specs.Offences.{either}
 use Rattle.nodes.specs.Views.{View, zero_word, marker_of, padding_of, unknown_of, entry_of, content_of, view, viewed, sized}
+use Rattle.nodes.specs.declared.tail.Tail.{Tail}
+use Rattle.nodes.specs.Tail.{IsFront}
 use Rattle.nodes.proofs.Standing.{reach_more, at_all}
 use Rattle.nodes.proofs.Cuts.{length_seen, front_seen, reaches, falls_short}
-use Rattle.nodes.proofs.Fronts.{le32_cut, le16_cut, word_cut, body, none_short, zero_offered, none_header, none_bad, plain_offered, entry_offered, content_offered, offered_cut}
+use Rattle.nodes.proofs.Fronts.{le32_cut, le16_cut, word_cut, body, none_short, zero_offered, none_header, none_bad, plain_offered, node_offered, offered_cut}
 use Rattle.nodes.proofs.Viewed.{kind_known, kind_unknown, view_word, view_kind, view_unknown, size_word, size_other}
 
 -- how many bytes from a place on can be read
@@ -37,11 +41,29 @@ reaching_is fs at bs n h = go (readable fs at n) refl
     go true e = sym (le-leb _ _ (reaches fs at n bs h e))
     go false e = sym (lt-leb _ _ (falls_short fs at n bs e))
 
-pub reaching_not : (fs : List Bool) (at : ℕ) (bs : List ℕ) (n : ℕ) → length bs < n → leb n (length bs) ≡ reaching fs at bs n
-reaching_not fs at bs n h = lt-leb _ _ h ∙ sym (lt-leb n (got fs at bs) (let w = got_within fs at bs in omega arith))
+pub reaching_not : (fs : List Bool) (at : ℕ) (bs : List ℕ) (n : ℕ) → length bs < n → reaching fs at bs n ≡ false
+reaching_not fs at bs n h = lt-leb n (got fs at bs) (let w = got_within fs at bs in omega arith)
 
 pub reaching_length : (fs : List Bool) (at : ℕ) (bs : List ℕ) (n : ℕ) → reaching fs at bs n ≡ true → n ≤ length bs
 reaching_length fs at bs n e = let r = leb-true _ _ e in let w = got_within fs at bs in omega arith
+
+-- the code's answer to whether the first n bytes are there and can be read
+pub front_none : (t : Tail) (n : ℕ) (r : Option (Bor (List ℕ))) → r ≡ None → length t.bytes.now < n → IsFront t n r
+front_none t n r e l = subst (IsFront t n) (sym e) (reaching_not t.readable.now t.at t.bytes.now n l)
+
+pub front_some : (t : Tail) (n : ℕ) (r : Option (Bor (List ℕ))) (b : Bool) (f : Bor (List ℕ)) → r ≡ then_some b f → b ≡ readable t.readable.now t.at n → n ≤ length t.bytes.now → f.now ≡ take n t.bytes.now → IsFront t n r
+front_some t n r b f e h l k = subst (IsFront t n) (sym e) (go b (sym (h ∙ reaching_is t.readable.now t.at t.bytes.now n l)))
+  where
+    go : (b : Bool) → reaching t.readable.now t.at t.bytes.now n ≡ b → IsFront t n (then_some b f)
+    go true e = (e, k)
+    go false e = e
+
+-- the word that the code reads of the first four bytes
+pub word_read : (bs word : List ℕ) → word ≡ take 4 bs → le32 word 0 ≡ le32 bs 0
+word_read bs word e = ap (λ w. le32 w 0) e ∙ le32_cut bs 4 0 (omega arith)
+
+pub word_long : (fs : List Bool) (at : ℕ) (bs word : List ℕ) → (reaching fs at bs 4 ≡ true) × (word ≡ take 4 bs) → 4 ≤ length word
+word_long fs at bs word f = let l = reaching_length fs at bs 4 f.0 in omega (arith, ap length f.1, length-take-le 4 bs l)
 
 pub none_word : (fs : List Bool) (at : ℕ) (bs : List ℕ) → reaching fs at bs 4 ≡ false → None ≡ sized (stands (seen_from fs at bs))
 none_word fs at bs e = sym (ap sized (stands_is fs at bs ∙ none_short (length bs) bs (got fs at bs) (leb-false _ _ e)))
@@ -70,13 +92,9 @@ some_passing false b g h e = absurd (let z : ◌≡◌ {A = ℕ} 0 1 = cc in ome
 pub passing_some : (bs : List ℕ) (h : Head) → Some h ≡ passing bs → (all (header (length bs) bs) ≡ true) × (h ≡ head bs)
 passing_some bs h e = some_passing (leb 12 (length bs)) (all (header (length bs) bs)) h (head bs) e
 
-entry_given : (it : Item) (b : Bool) (e : Entry) → view it ≡ entry_of it (read_entry it) → Some e ≡ cond b (Some (read_entry it)) None → Some (entry_of it e) ≡ viewed (cond b (Some it) None)
-entry_given it true e v h = cc
-entry_given it false e v h = absurd (let z : ◌≡◌ {A = ℕ} 0 1 = cc in omega arith)
-
-content_given : (it : Item) (b : Bool) (e : Content) → view it ≡ content_of it (read_content it) → Some e ≡ cond b (Some (read_content it)) None → Some (content_of it e) ≡ viewed (cond b (Some it) None)
-content_given it true e v h = cc
-content_given it false e v h = absurd (let z : ◌≡◌ {A = ℕ} 0 1 = cc in omega arith)
+given : {X : Type 0} (it : Item) (b : Bool) (e x : X) (v : X → View) → view it ≡ v x → Some e ≡ cond b (Some x) None → Some (v e) ≡ viewed (cond b (Some it) None)
+given it true e x v w h = cc
+given it false e x v w h = absurd (let z : ◌≡◌ {A = ℕ} 0 1 = cc in omega arith)
 
 none_given : {X : Type 0} (it : Item) (b : Bool) (x : X) → None ≡ cond b (Some x) None → None ≡ viewed (cond b (Some it) None)
 none_given it true x h = absurd (let z : ◌≡◌ {A = ℕ} 0 1 = cc in omega arith)
@@ -138,17 +156,17 @@ module _ {fs : List Bool} {at : ℕ} {bs : List ℕ} {h : Head} (headed : Headed
       sym (ap viewed (stands_is fs at bs ∙ plain_offered (length bs) bs (got fs at bs) (leb-true _ _ headed.all_read) (got_within fs at bs) headed.no_word sound
       (not_kind h.kind 0xE001 p refl) (not_kind h.kind 0xE002 q refl)) ∙ ap Some e)
 
-  pub unknown_viewed : None ≡ kind_with h.kind → Some (unknown_of h.kind h.totlen) ≡ viewed (stands (seen_from fs at bs))
+  pub unknown_viewed : kind_with h.kind ≡ None → Some (unknown_of h.kind h.totlen) ≡ viewed (stands (seen_from fs at bs))
   unknown_viewed u =
       let f = kind_unknown h.kind u in
       plain _ f.2 f.3 (view_unknown (take 12 bs) h.kind twelve_word twelve_kind u ∙ ap (unknown_of h.kind) twelve_length)
 
-  pub marker_viewed : Some kinds.Marker ≡ kind_with h.kind → Some (marker_of h.totlen) ≡ viewed (stands (seen_from fs at bs))
+  pub marker_viewed : kind_with h.kind ≡ Some kinds.Marker → Some (marker_of h.totlen) ≡ viewed (stands (seen_from fs at bs))
   marker_viewed k =
       let e = kind_known h.kind kinds.Marker k in
       plain _ (ap (λ n. eqb n 0xE001) e) (ap (λ n. eqb n 0xE002) e) (view_kind (take 12 bs) 0x2003 twelve_word (twelve_kind ∙ e) ∙ ap marker_of twelve_length)
 
-  pub padding_viewed : Some kinds.Padding ≡ kind_with h.kind → Some (padding_of h.totlen) ≡ viewed (stands (seen_from fs at bs))
+  pub padding_viewed : kind_with h.kind ≡ Some kinds.Padding → Some (padding_of h.totlen) ≡ viewed (stands (seen_from fs at bs))
   padding_viewed k =
       let e = kind_known h.kind kinds.Padding k in
       plain _ (ap (λ n. eqb n 0xE001) e) (ap (λ n. eqb n 0xE002) e) (view_kind (take 12 bs) 0x2004 twelve_word (twelve_kind ∙ e) ∙ ap padding_of twelve_length)
@@ -156,52 +174,59 @@ module _ {fs : List Bool} {at : ℕ} {bs : List ℕ} {h : Head} (headed : Headed
   long : 12 ≤ h.totlen
   long = let low = leb-true 12 (totlen bs) (at_all (header (length bs) bs) sound 3) in omega (arith, length_is)
 
-  -- an entry or a content, of which the code takes the first n bytes
-  module _ (n : ℕ) (same : n ≡ h.totlen) where
-    node_word : is_word (take n bs) ≡ false
-    node_word = word_cut bs n (omega (arith, long)) ∙ headed.no_word
+  -- an entry or a content, of which the code takes all bytes
+  module _ (it : Item) (same : it ≡ take h.totlen bs) where
+    node_word : is_word it ≡ false
+    node_word = ap is_word same ∙ word_cut bs h.totlen (omega (arith, long)) ∙ headed.no_word
 
-    node_kind : kind (take n bs) ≡ h.kind
-    node_kind = le16_cut bs n 2 (omega (arith, long)) ∙ sym kind_is
+    node_kind : kind it ≡ h.kind
+    node_kind = ap kind same ∙ le16_cut bs h.totlen 2 (omega (arith, long)) ∙ sym kind_is
 
-    pub node_length : true ≡ reaching fs at bs h.totlen → length (take n bs) ≡ totlen (take n bs)
+    pub node_length : reaching fs at bs h.totlen ≡ true → length it ≡ totlen it
     node_length r =
-        length-take-le n bs (omega (arith, reaching_length fs at bs h.totlen (sym r))) ∙ same ∙ length_is ∙ sym (le32_cut bs n 4 (omega (arith, long)))
+        ap length same ∙ length-take-le h.totlen bs (reaching_length fs at bs h.totlen r)
+        ∙ length_is ∙ sym (le32_cut bs h.totlen 4 (omega (arith, long))) ∙ ap totlen (sym same)
 
-    entry_at : (b : Bool) → b ≡ reaching fs at bs h.totlen → h.kind ≡ 0xE001 → cond b (cond (all (entry (take n bs))) (Some (take n bs)) None) None ≡ stands (seen_from fs at bs)
-    entry_at b r k =
-        let t : n ≡ totlen bs = same ∙ length_is in
-        sym (stands_is fs at bs ∙ entry_offered (length bs) bs (got fs at bs) (leb-true _ _ headed.all_read) (got_within fs at bs) headed.no_word sound (ap (λ v. eqb v 0xE001) (sym kind_is ∙ k))
-        ∙ ap (λ l. cond (leb l (got fs at bs)) (cond (body (take l bs)) (Some (take l bs)) None) None) (sym t)
-        ∙ ap (λ v. cond v (cond (body (take n bs)) (Some (take n bs)) None) None) (ap (λ l. leb l (got fs at bs)) same ∙ sym r)
-        ∙ ap (λ v. cond b (cond v (Some (take n bs)) None) None) (cond-true _ _ _ (ap (λ v. eqb v 0xE001) (node_kind ∙ k))))
+    -- what stands there, where r says whether all can be read, and b whether the node passes
+    node_at : (v : ℕ) → h.kind ≡ v → either (eqb v 0xE001) (eqb v 0xE002) ≡ true → (r b : Bool) → reaching fs at bs h.totlen ≡ r → body it ≡ b → stands (seen_from fs at bs) ≡ cond r (cond b (Some it) None) None
+    node_at v k w r b e f =
+        stands_is fs at bs
+        ∙ node_offered (length bs) bs (got fs at bs) (leb-true _ _ headed.all_read) (got_within fs at bs) headed.no_word sound (ap (λ n. either (eqb n 0xE001) (eqb n 0xE002)) (sym kind_is ∙ k) ∙ w)
+        ∙ ap (λ l. cond (leb l (got fs at bs)) (cond (body (take l bs)) (Some (take l bs)) None) None) (sym length_is)
+        ∙ ap (λ i. cond (reaching fs at bs h.totlen) (cond (body i) (Some i) None) None) (sym same)
+        ∙ ap (λ t. cond t (cond (body it) (Some it) None) None) e
+        ∙ ap (λ t. cond r (cond t (Some it) None) None) f
 
-    content_at : (b : Bool) → b ≡ reaching fs at bs h.totlen → h.kind ≡ 0xE002 → cond b (cond (all (content (take n bs))) (Some (take n bs)) None) None ≡ stands (seen_from fs at bs)
-    content_at b r k =
-        let t : n ≡ totlen bs = same ∙ length_is in
-        sym (stands_is fs at bs ∙ content_offered (length bs) bs (got fs at bs) (leb-true _ _ headed.all_read) (got_within fs at bs) headed.no_word sound (ap (λ v. eqb v 0xE001) (sym kind_is ∙ k)) (ap (λ v. eqb v 0xE002) (sym kind_is ∙ k))
-        ∙ ap (λ l. cond (leb l (got fs at bs)) (cond (body (take l bs)) (Some (take l bs)) None) None) (sym t)
-        ∙ ap (λ v. cond v (cond (body (take n bs)) (Some (take n bs)) None) None) (ap (λ l. leb l (got fs at bs)) same ∙ sym r)
-        ∙ ap (λ v. cond b (cond v (Some (take n bs)) None) None) (cond-false _ _ _ (ap (λ v. eqb v 0xE001) (node_kind ∙ k)) ∙ cond-true _ _ _ (ap (λ v. eqb v 0xE002) (node_kind ∙ k))))
+    entry_body : h.kind ≡ 0xE001 → body it ≡ all (entry it)
+    entry_body k = cond-true _ _ _ (ap (λ n. eqb n 0xE001) (node_kind ∙ k))
 
-    pub entry_viewed : (e : Entry) → true ≡ reaching fs at bs h.totlen → h.kind ≡ 0xE001 → Some e ≡ entry_in (take n bs) → Some (entry_of (take n bs) e) ≡ viewed (stands (seen_from fs at bs))
-    entry_viewed e r k x =
-        entry_given (take n bs) (all (entry (take n bs))) e (view_kind (take n bs) 0xE001 node_word (node_kind ∙ k)) x
-        ∙ ap viewed (entry_at true r k)
+    content_body : h.kind ≡ 0xE002 → body it ≡ all (content it)
+    content_body k = cond-false _ _ _ (ap (λ n. eqb n 0xE001) (node_kind ∙ k)) ∙ cond-true _ _ _ (ap (λ n. eqb n 0xE002) (node_kind ∙ k))
 
-    pub content_viewed : (e : Content) → true ≡ reaching fs at bs h.totlen → h.kind ≡ 0xE002 → Some e ≡ content_in (take n bs) → Some (content_of (take n bs) e) ≡ viewed (stands (seen_from fs at bs))
-    content_viewed e r k x =
-        content_given (take n bs) (all (content (take n bs))) e (view_kind (take n bs) 0xE002 node_word (node_kind ∙ k)) x
-        ∙ ap viewed (content_at true r k)
+    pub entry_viewed : kind_with h.kind ≡ Some kinds.Entry → reaching fs at bs h.totlen ≡ true → (e : Entry) → Some e ≡ entry_in it → Some (entry_of it e) ≡ viewed (stands (seen_from fs at bs))
+    entry_viewed k r e x =
+        let v = kind_known h.kind kinds.Entry k in
+        given it (all (entry it)) e (read_entry it) (entry_of it) (view_kind it 0xE001 node_word (node_kind ∙ v)) x
+        ∙ sym (ap viewed (node_at 0xE001 v refl true _ r (entry_body v)))
 
-    pub entry_fails : true ≡ reaching fs at bs h.totlen → h.kind ≡ 0xE001 → None ≡ entry_in (take n bs) → None ≡ viewed (stands (seen_from fs at bs))
-    entry_fails r k x = none_given (take n bs) (all (entry (take n bs))) (read_entry (take n bs)) x ∙ ap viewed (entry_at true r k)
+    pub content_viewed : kind_with h.kind ≡ Some kinds.Content → reaching fs at bs h.totlen ≡ true → (e : Content) → Some e ≡ content_in it → Some (content_of it e) ≡ viewed (stands (seen_from fs at bs))
+    content_viewed k r e x =
+        let v = kind_known h.kind kinds.Content k in
+        given it (all (content it)) e (read_content it) (content_of it) (view_kind it 0xE002 node_word (node_kind ∙ v)) x
+        ∙ sym (ap viewed (node_at 0xE002 v refl true _ r (content_body v)))
 
-    pub content_fails : true ≡ reaching fs at bs h.totlen → h.kind ≡ 0xE002 → None ≡ content_in (take n bs) → None ≡ viewed (stands (seen_from fs at bs))
-    content_fails r k x = none_given (take n bs) (all (content (take n bs))) (read_content (take n bs)) x ∙ ap viewed (content_at true r k)
+    pub entry_fails : kind_with h.kind ≡ Some kinds.Entry → reaching fs at bs h.totlen ≡ true → None ≡ entry_in it → None ≡ viewed (stands (seen_from fs at bs))
+    entry_fails k r x =
+        let v = kind_known h.kind kinds.Entry k in
+        none_given it (all (entry it)) (read_entry it) x ∙ sym (ap viewed (node_at 0xE001 v refl true _ r (entry_body v)))
 
-  pub entry_short : false ≡ reaching fs at bs h.totlen → h.kind ≡ 0xE001 → None ≡ viewed (stands (seen_from fs at bs))
-  entry_short r k = ap viewed (entry_at h.totlen refl false r k)
+    pub content_fails : kind_with h.kind ≡ Some kinds.Content → reaching fs at bs h.totlen ≡ true → None ≡ content_in it → None ≡ viewed (stands (seen_from fs at bs))
+    content_fails k r x =
+        let v = kind_known h.kind kinds.Content k in
+        none_given it (all (content it)) (read_content it) x ∙ sym (ap viewed (node_at 0xE002 v refl true _ r (content_body v)))
 
-  pub content_short : false ≡ reaching fs at bs h.totlen → h.kind ≡ 0xE002 → None ≡ viewed (stands (seen_from fs at bs))
-  content_short r k = ap viewed (content_at h.totlen refl false r k)
+  pub entry_short : kind_with h.kind ≡ Some kinds.Entry → reaching fs at bs h.totlen ≡ false → None ≡ viewed (stands (seen_from fs at bs))
+  entry_short k r = sym (ap viewed (node_at _ refl 0xE001 (kind_known h.kind kinds.Entry k) refl false _ r refl))
+
+  pub content_short : kind_with h.kind ≡ Some kinds.Content → reaching fs at bs h.totlen ≡ false → None ≡ viewed (stands (seen_from fs at bs))
+  content_short k r = sym (ap viewed (node_at _ refl 0xE002 (kind_known h.kind kinds.Content k) refl false _ r refl))

@@ -15,7 +15,7 @@ pub record Reads (cs : List Cell) (it : Item) : Type 0 where
   pub whole : reach it ≡ length it
   pub good : passes (length cs) it ≡ true
 
-front_cells : (it : Item) (r : List Cell) → front (cells it ++ r) ≡ it ++ front r
+pub front_cells : (it : Item) (r : List Cell) → front (cells it ++ r) ≡ it ++ front r
 unfolding front
 front_cells [] r = refl
 front_cells (b ∷ it) r = ap (λ l. b ∷ l) (front_cells it r)

@@ -53,9 +53,7 @@ pub(crate) fn padded_len(totlen: u32) -> usize
 pub(crate) fn passing_header(bytes: &[u8]) -> Option<Header<'_>>
     ensures { head_shown result ≡ passing bytes.now }
 {
-    let Some(header) = read_header(bytes) else {
-        return None;
-    };
+    let header = read_header(bytes)?;
     if header.sum != crc32::sum_of(&bytes[..8]) || header.totlen < 12 {
         return None;
     }

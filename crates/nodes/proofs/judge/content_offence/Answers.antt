@@ -6,10 +6,6 @@ pub returns-then-c-gt1 : goal.returns-then-c-gt1
 unfolding content_offence
 returns-then-c-gt1 c = search rules
 
-pub returns-then-content_fits : goal.returns-then-content_fits
+pub returns : goal.returns
 unfolding content_offence
-returns-then-content_fits c = search rules
-
-pub returns-else-content_fits : goal.returns-else-content_fits
-unfolding content_offence
-returns-else-content_fits c = search rules
+returns c = search rules
