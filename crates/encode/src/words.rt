@@ -22,7 +22,7 @@ pub(crate) fn put_words(out: &mut [u8], at: usize, words: &[u32])
 pub(crate) fn header(kind: Kind, totlen: u32) -> [u32; 3]
     ensures { spread result ≡ head (kind_value kind) totlen }
 {
-    let first = 0x1985 + 0x10000 * kind.value() as u32;
+    let first = 0x1985 + 0x10000 * u16::from(kind) as u32;
     let sum = sum_of([first.to_le_bytes(), totlen.to_le_bytes()].as_flattened());
     [first, totlen, sum]
 }
