@@ -1,5 +1,5 @@
 -- The bytes of entries and contents, put part by part.
-use Rattle.std.proofs.Common.{◌≡◌, ℕ, ◌+◌, ◌*◌, ◌/◌, ◌%◌, ◌<◌, List, [], ◌∷◌, ◌++◌, length, take, sym, ap, ◌∙◌, append_assoc, mod-eq_of_lt, arith}
+use Rattle.std.proofs.Common.{◌≡◌, ℕ, ◌+◌, ◌*◌, ◌/◌, ◌%◌, ◌<◌, List, [], ◌∷◌, ◌++◌, length, take, sym, ap, ◌∙◌, append_assoc, arith}
 use Rattle.std.proofs.lemmas.List.{length-append}
 use Rattle.crc32.specs.Sum.{sum}
 use Rattle.flash.specs.Cells.{over}
@@ -13,14 +13,10 @@ use Rattle.encode.proofs.Parts.{words_length, over_then, over_taken}
 -- two bytes in the low half of a word, and one
 low_bytes : (a b : ℕ) → a < 256 → b < 256 → bytes32 (a + 256 * b) ≡ a ∷ b ∷ 0 ∷ 0 ∷ []
 low_bytes a b h l =
-    let n = a + 256 * b in
-    let first : n % 256 ≡ a = omega arith in
-    let one : n / 256 ≡ b = omega arith in
-    let second : n / 256 % 256 ≡ b = ap (λ m. m % 256) one ∙ mod-eq_of_lt l in
-    let two : n / 65536 ≡ 0 = omega arith in
-    let three : n / 16777216 ≡ 0 = omega arith in
-    let third : n / 65536 % 256 ≡ 0 = ap (λ m. m % 256) two in
-    let fourth : n / 16777216 % 256 ≡ 0 = ap (λ m. m % 256) three in
+    let first : (a + 256 * b) % 256 ≡ a = omega arith in
+    let second : (a + 256 * b) / 256 % 256 ≡ b = omega arith in
+    let third : (a + 256 * b) / 65536 % 256 ≡ 0 = omega arith in
+    let fourth : (a + 256 * b) / 16777216 % 256 ≡ 0 = omega arith in
     cc
 
 low_byte : (a : ℕ) → a < 256 → bytes32 a ≡ a ∷ 0 ∷ 0 ∷ 0 ∷ []
@@ -48,19 +44,8 @@ pub entry_made : (x : Entry) → EntryFits x → entry_item x ≡ node_item 0xE0
 unfolding entry_item entry32 spread
 entry_made x f =
     let h = f.short in
-    let front : List ℕ = head 0xE001 (40 + length x.name) in
-    let low : bytes32 (length x.name + 256 * x.dtype) ≡ length x.name ∷ x.dtype ∷ 0 ∷ 0 ∷ [] = low_bytes (length x.name) x.dtype (omega arith) f.dtype in
-    ap (λ v.
-    let fixed : List ℕ = front ++ (bytes32 x.pino ++ (bytes32 x.version ++ (bytes32 x.ino ++ (bytes32 0 ++ (v ++ []))))) in
-    fixed ++ (bytes32 (sum fixed) ++ (bytes32 (sum x.name) ++ x.name))) (sym low)
+    cc (low_bytes (length x.name) x.dtype (omega arith) f.dtype)
 
 pub content_made : (x : Content) → ContentFits x → content_item x ≡ node_item 0xE002 (68 + length x.payload) (content_words x (length x.payload)) content_sums x.payload
 unfolding content_item content60 spread
-content_made x f =
-    let front : List ℕ = head 0xE002 (68 + length x.payload) in
-    ap (λ v.
-    let fixed : List ℕ =
-    front
-    ++ (bytes32 x.ino ++ (bytes32 x.version ++ (bytes32 x.mode ++ (bytes32 0 ++ (bytes32 x.isize
-    ++ (bytes32 0 ++ (bytes32 0 ++ (bytes32 0 ++ (bytes32 x.offset ++ (bytes32 (length x.payload) ++ (bytes32 x.dsize ++ (v ++ [])))))))))))) in
-    fixed ++ (bytes32 (sum x.payload) ++ (bytes32 (sum fixed) ++ x.payload))) (sym (low_byte x.compr f.compr))
+content_made x f = cc (low_byte x.compr f.compr)
