@@ -6,11 +6,12 @@ use Rattle.crc32.specs.Sum.{sum}
 use Rattle.nodes.specs.Fields.{le32, bytes32, padded, all}
 use Rattle.nodes.specs.Items.{size, totlen, content, csize, payload}
 use Rattle.nodes.specs.Records.{Content, read_content}
-use Rattle.encode.specs.Encode.{Bytes, head, head8, ContentFits, content60, content_item}
+use Rattle.encode.specs.Encode.{spread, head, head8, ContentFits, content60, content_item}
 use Rattle.encode.specs.Laid.{WellFormed}
+use Rattle.encode.specs.Node.{node_item, content_words, content_sums}
 use Rattle.encode.specs.Laws.{ContentTrip, ContentTrips}
-use Rattle.encode.proofs.Sums.{sum_fits, digits, bytes_append}
-use Rattle.encode.proofs.Headers.{Headed, headed, content_passes, content_reach}
+use Rattle.encode.proofs.Sums.{sum_fits, digits, low_byte}
+use Rattle.encode.proofs.Headers.{Headed, headed, front_sum, content_passes, content_reach}
 
 module _ (x : Content) where
   abbrev behind : List ℕ
@@ -37,16 +38,17 @@ module _ (x : Content) where
   unfolding content_item content60 head head8
   content_held = refl
 
-module _ (x : Content) (f : ContentFits x) (summed : sum x.payload < 2 ^ 32) where
-  content60_bytes : Bytes (content60 x)
-  unfolding content60 head head8
-  content60_bytes =
-      let t = f.compr in
-      let a : List ℕ = head 0xE002 (68 + length x.payload) ++ (bytes32 x.ino ++ (bytes32 x.version ++ (bytes32 x.mode ++ bytes32 0))) in
-      let b : List ℕ =
-      bytes32 x.isize ++ (bytes32 0 ++ (bytes32 0 ++ (bytes32 0 ++ (bytes32 x.offset ++ (bytes32 (length x.payload) ++ (bytes32 x.dsize ++ (x.compr ∷ 0 ∷ 0 ∷ 0 ∷ []))))))) in
-      bytes_append a b (omega arith) (omega arith)
+-- the fixed part and the item, as a node has them
+module _ (x : Content) (f : ContentFits x) where
+  content_fixed : content60 x ≡ head 0xE002 (68 + length x.payload) ++ spread (content_words x (length x.payload))
+  unfolding content60 spread
+  content_fixed = cc (low_byte x.compr f.compr)
 
+  pub content_made : content_item x ≡ node_item 0xE002 (68 + length x.payload) (content_words x (length x.payload)) content_sums x.payload
+  unfolding content_item spread
+  content_made = cc content_fixed
+
+module _ (x : Content) (f : ContentFits x) (summed : sum x.payload < 2 ^ 32) where
   content_csize : csize (content_item x) ≡ length x.payload
   unfolding content_item content60 head head8 le32
   content_csize = digits (length x.payload) (let h = f.short in omega arith)
@@ -58,7 +60,7 @@ module _ (x : Content) (f : ContentFits x) (summed : sum x.payload < 2 ^ 32) whe
 
   content_sum : le32 (content_item x) 64 ≡ sum (take 60 (content_item x))
   unfolding content_item content60 head head8 le32
-  content_sum = digits (sum (content60 x)) (sum_fits (content60 x) content60_bytes)
+  content_sum = digits (sum (content60 x)) (rw (content_fixed x f) (front_sum 0xE002 (68 + length x.payload) (content_words x (length x.payload))))
 
   payload_sum : le32 (content_item x) 60 ≡ sum x.payload
   unfolding content_item content60 head head8 le32

@@ -6,11 +6,12 @@ use Rattle.crc32.specs.Sum.{sum}
 use Rattle.nodes.specs.Fields.{le32, bytes32, padded, all}
 use Rattle.nodes.specs.Items.{size, totlen, entry, nsize, name}
 use Rattle.nodes.specs.Records.{Entry, read_entry}
-use Rattle.encode.specs.Encode.{Bytes, head, head8, EntryFits, entry32, entry_item}
+use Rattle.encode.specs.Encode.{spread, head, head8, EntryFits, entry32, entry_item}
 use Rattle.encode.specs.Laid.{WellFormed}
+use Rattle.encode.specs.Node.{node_item, entry_words, entry_sums}
 use Rattle.encode.specs.Laws.{EntryTrip, EntryTrips}
-use Rattle.encode.proofs.Sums.{sum_fits, digits}
-use Rattle.encode.proofs.Headers.{Headed, headed, entry_passes, entry_reach}
+use Rattle.encode.proofs.Sums.{sum_fits, digits, low_bytes}
+use Rattle.encode.proofs.Headers.{Headed, headed, front_sum, entry_passes, entry_reach}
 
 module _ (x : Entry) where
   abbrev behind : List ℕ
@@ -40,17 +41,20 @@ module _ (x : Entry) where
   unfolding entry_item entry32 head head8
   entry_nsize = refl
 
-module _ (x : Entry) (f : EntryFits x) (summed : sum x.name < 2 ^ 32) where
-  entry32_bytes : Bytes (entry32 x)
-  unfolding entry32 head head8
-  entry32_bytes =
-      let s = f.short in
-      let t = f.dtype in
-      omega arith
+-- the fixed part and the item, as a node has them
+module _ (x : Entry) (f : EntryFits x) where
+  entry_fixed : entry32 x ≡ head 0xE001 (40 + length x.name) ++ spread (entry_words x (length x.name))
+  unfolding entry32 spread
+  entry_fixed = let h = f.short in cc (low_bytes (length x.name) x.dtype (omega arith) f.dtype)
 
+  pub entry_made : entry_item x ≡ node_item 0xE001 (40 + length x.name) (entry_words x (length x.name)) entry_sums x.name
+  unfolding entry_item spread
+  entry_made = cc entry_fixed
+
+module _ (x : Entry) (f : EntryFits x) (summed : sum x.name < 2 ^ 32) where
   entry_sum : le32 (entry_item x) 32 ≡ sum (take 32 (entry_item x))
   unfolding entry_item entry32 head head8 le32
-  entry_sum = digits (sum (entry32 x)) (sum_fits (entry32 x) entry32_bytes)
+  entry_sum = digits (sum (entry32 x)) (rw (entry_fixed x f) (front_sum 0xE001 (40 + length x.name) (entry_words x (length x.name))))
 
   name_sum : le32 (entry_item x) 36 ≡ sum x.name
   unfolding entry_item entry32 head head8 le32

@@ -1,11 +1,11 @@
 -- Headers as they are made, and what passes behind them, by its kind.
-use Rattle.std.proofs.Common.{◌≡◌, ℕ, ◌^◌, ◌<◌, ◌≤◌, max, true, false, List, [], ◌++◌, length, get_or, take, sym, refl, ap, ◌∙◌, arith}
+use Rattle.std.proofs.Common.{◌≡◌, ℕ, ◌^◌, ◌<◌, ◌≤◌, max, true, false, List, [], ◌∷◌, ◌++◌, length, get_or, take, sym, refl, ap, ◌∙◌, arith}
 use Rattle.std.proofs.lemmas.Bool.Decides.{nat_tests}
 use Rattle.std.proofs.lemmas.Bool.{ne_eqb, cond-false}
 use Rattle.crc32.specs.Sum.{sum}
 use Rattle.nodes.specs.Fields.{le16, le32, bytes32, padded, all}
 use Rattle.nodes.specs.Items.{Item, kind, totlen, is_word, reach, header, passes, size, entry, content}
-use Rattle.encode.specs.Encode.{Bytes, head8, head, zero_word, padding}
+use Rattle.encode.specs.Encode.{Bytes, spread, head8, head, zero_word, padding}
 use Rattle.encode.specs.Laid.{WellFormed}
 use Rattle.encode.proofs.Sums.{sum_fits, digits, bytes_append, bytes32_are}
 
@@ -13,13 +13,22 @@ head8_bytes : (k n : ℕ) → Bytes (head8 k n)
 unfolding head8
 head8_bytes k n = (omega arith, (omega arith, (omega arith, (omega arith, bytes32_are n))))
 
-pub head_bytes : (k n : ℕ) → Bytes (head k n)
+head_bytes : (k n : ℕ) → Bytes (head k n)
 unfolding head
 head_bytes k n = bytes_append (head8 k n) (bytes32 (sum (head8 k n))) (head8_bytes k n) (bytes32_are (sum (head8 k n)))
 
 pub head_length : (k n : ℕ) → length (head k n) ≡ 12
 unfolding head head8
 head_length k n = refl
+
+words_bytes : (ws : List ℕ) → Bytes (spread ws)
+unfolding spread
+words_bytes [] = tt
+words_bytes (w ∷ ws) = bytes_append (bytes32 w) (spread ws) (bytes32_are w) (words_bytes ws)
+
+-- what stands before the sums of a node has a sum
+pub front_sum : (k n : ℕ) (ws : List ℕ) → sum (head k n ++ spread ws) < 2 ^ 32
+front_sum k n ws = sum_fits (head k n ++ spread ws) (bytes_append (head k n) (spread ws) (head_bytes k n) (words_bytes ws))
 
 -- what an item has that begins with a header made for the kind k and the length n
 pub record Headed (k n : ℕ) (it : List ℕ) : Type 0 where
@@ -106,9 +115,10 @@ module _ (n : ℕ) (low : 12 ≤ n) (fits : n < 2 ^ 32) where
 
   pub padding_well : WellFormed (padding n)
   padding_well =
-      let h = padding_headed in
-      (other_reach (padding n) h.word (λ z. omega arith) (λ z. omega arith) ∙ sym padding_length,
-      other_passes (size (padding n)) (padding n) h.word (h.good low) (λ z. omega arith) (λ z. omega arith))
+      let h = padding_headed in (
+        other_reach (padding n) h.word (λ z. omega arith) (λ z. omega arith) ∙ sym padding_length,
+        other_passes (size (padding n)) (padding n) h.word (h.good low) (λ z. omega arith) (λ z. omega arith),
+      )
 
 pub word_well : WellFormed zero_word
 unfolding reach passes le32

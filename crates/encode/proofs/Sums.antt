@@ -1,5 +1,5 @@
 -- The sum of bytes is a number of four bytes, and numbers of four bytes are read again as they were.
-use Rattle.std.proofs.Common.{◌≡◌, ℕ, zero, suc, ◌+◌, ◌*◌, ◌/◌, ◌%◌, ◌^◌, ◌<◌, eqb, List, [], ◌∷◌, ◌++◌, mod-eq_of_lt, arith}
+use Rattle.std.proofs.Common.{ap, ◌∙◌, ◌≡◌, ℕ, zero, suc, ◌+◌, ◌*◌, ◌/◌, ◌%◌, ◌^◌, ◌<◌, eqb, List, [], ◌∷◌, ◌++◌, mod-eq_of_lt, arith}
 use lib.Bits.{bit_xor, xor_lt}
 use Rattle.std.proofs.lemmas.Bool.{cond_both}
 use Rattle.std.proofs.lemmas.Nat.{shr-shr, shr_below}
@@ -41,3 +41,15 @@ bytes_append (x ∷ a) b p q = (p.0, bytes_append a b p.1 q)
 
 pub bytes32_are : (n : ℕ) → Bytes (bytes32 n)
 bytes32_are n = (omega arith, (omega arith, (omega arith, (omega arith, tt))))
+
+-- two bytes in the low half of a word, and one
+pub low_bytes : (a b : ℕ) → a < 256 → b < 256 → bytes32 (a + 256 * b) ≡ a ∷ b ∷ 0 ∷ 0 ∷ []
+low_bytes a b h l =
+    let first : (a + 256 * b) % 256 ≡ a = omega arith in
+    let second : (a + 256 * b) / 256 % 256 ≡ b = omega arith in
+    let third : (a + 256 * b) / 65536 % 256 ≡ 0 = omega arith in
+    let fourth : (a + 256 * b) / 16777216 % 256 ≡ 0 = omega arith in
+    cc
+
+pub low_byte : (a : ℕ) → a < 256 → bytes32 a ≡ a ∷ 0 ∷ 0 ∷ 0 ∷ []
+low_byte a h = ap bytes32 (omega arith) ∙ low_bytes a 0 h (omega arith)

@@ -1,8 +1,7 @@
 use Rattle.std.proofs.Common.{arith}
 use Rattle.nodes.specs.Shown.{content_shown}
 use Rattle.encode.specs.Encode.{ContentFits}
-use Rattle.encode.proofs.Contents.{content_trip}
-use Rattle.encode.proofs.Nodes.{content_made}
+use Rattle.encode.proofs.Contents.{content_made, content_trip}
 use Rattle.encode.proofs.node.ContentNode12512.words.Goals as goal
 
 pub returns-clause-made : goal.returns-clause-made

@@ -1,8 +1,7 @@
 use Rattle.std.proofs.Common.{arith}
 use Rattle.nodes.specs.Shown.{entry_shown}
 use Rattle.encode.specs.Encode.{EntryFits}
-use Rattle.encode.proofs.Entries.{entry_trip}
-use Rattle.encode.proofs.Nodes.{entry_made}
+use Rattle.encode.proofs.Entries.{entry_made, entry_trip}
 use Rattle.encode.proofs.node.EntryNode532.words.Goals as goal
 
 pub returns-clause-made : goal.returns-clause-made
