@@ -1,8 +1,7 @@
 -- The sum of bytes is a number of four bytes, and numbers of four bytes are read again as they were.
-use Rattle.std.proofs.Common.{ap, ◌∙◌, ◌≡◌, ℕ, zero, suc, ◌+◌, ◌*◌, ◌/◌, ◌%◌, ◌^◌, ◌<◌, eqb, List, [], ◌∷◌, ◌++◌, mod-eq_of_lt, arith}
+use Rattle.std.proofs.Common.{ap, ◌∙◌, ◌≡◌, ℕ, zero, suc, ◌+◌, ◌*◌, ◌/◌, ◌%◌, ◌^◌, ◌<◌, eqb, List, [], ◌∷◌, ◌++◌, arith}
 use lib.Bits.{bit_xor, xor_lt}
 use Rattle.std.proofs.lemmas.Bool.{cond_both}
-use Rattle.std.proofs.lemmas.Nat.{shr-shr, shr_below}
 use Rattle.crc32.specs.Sum.{sum, sum_from, fed, rounds, round}
 use Rattle.nodes.specs.Fields.{bytes32}
 use Rattle.encode.specs.Encode.{Bytes}
@@ -30,10 +29,7 @@ unfolding sum
 sum_fits bs b = from_fits 0 bs (omega arith) b
 
 pub digits : (n : ℕ) → n < 2 ^ 32 → n % 256 + n / 256 % 256 * 256 + n / 65536 % 256 * 65536 + n / 16777216 % 256 * 16777216 ≡ n
-digits n h =
-    let b : n / 16777216 < 256 = shr_below n 8 24 h in
-    let m : n / 16777216 % 256 ≡ n / 16777216 = mod-eq_of_lt b in
-    omega (arith, shr-shr n 8 8, shr-shr n 16 8)
+digits n h = omega arith
 
 pub bytes_append : (a b : List ℕ) → Bytes a → Bytes b → Bytes (a ++ b)
 bytes_append [] b p q = q
