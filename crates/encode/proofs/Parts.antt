@@ -1,7 +1,8 @@
 -- Bytes laid over others, part by part.
-use Rattle.std.proofs.Common.{◌≡◌, ℕ, ◌+◌, ◌*◌, ◌/◌, ◌%◌, ◌<◌, ◌≤◌, List, [], ◌∷◌, ◌++◌, length, get_or, take, drop, sym, refl, ap, ◌∙◌, append_assoc, add-zero, zero-add, arith}
+use Rattle.std.proofs.Common.{◌≡◌, ℕ, ◌+◌, ◌*◌, ◌/◌, ◌%◌, ◌<◌, ◌≤◌, List, [], ◌∷◌, ◌++◌, length, get_or, take, drop, sym, refl, ap, ◌∙◌, append_assoc, zero-add, arith}
 use borrow.Rule.Slice.PartMut.{put_mid}
-use Rattle.std.proofs.lemmas.List.{take_at, drop_at, drop-drop, length-append, length-take-le, take_more, take-append-drop, flat_map_more}
+use Rattle.std.proofs.lemmas.Grind.{common_steps}
+use Rattle.std.proofs.lemmas.List.{take_at, drop_at, drop-drop, length-append, length-take-le, take_more, flat_map_more}
 use Rattle.crc32.specs.Sum.{sum}
 use Rattle.flash.specs.Cells.{over}
 use Rattle.nodes.specs.Fields.{bytes32}
@@ -49,7 +50,7 @@ words_more xs at ws i os bs h l o b =
 -- nothing laid over
 pub over_none : (xs : List ℕ) (at : ℕ) → xs ≡ over xs at (spread [])
 unfolding spread
-over_none xs at = sym (take-append-drop at xs) ∙ ap (λ n. take at xs ++ drop n xs) (sym (add-zero at))
+over_none xs at = grind (arith, common_steps)
 
 -- the words of a header
 magic : (k : ℕ) → k < 65536 → bytes32 (0x1985 + 0x10000 * k) ≡ 0x85 ∷ 0x19 ∷ (k % 256) ∷ (k / 256 % 256) ∷ []

@@ -18,7 +18,8 @@ use crc32::sum_of;
 use kinds::Kind;
 use nodes::record::{Content, Entry};
 
-// A node: a header, so many words, two sums, and the bytes that it holds, at most so many.
+// What a node is made of: a header, WORDS words, two sums, and the bytes that it holds, at most MOST. The kind is no constant,
+// since the check does not state one yet for a type with a lifetime.
 pub trait Node<const WORDS: usize, const MOST: usize> {
     ghost kind: { ℕ };
 
@@ -28,6 +29,7 @@ pub trait Node<const WORDS: usize, const MOST: usize> {
 
     ghost held: { Self → List ℕ };
 
+    // The item that has these fields, and that it passes and is read as them.
     ghost item: { Self → Item };
 
     ghost trip: { Self → Type 0 };
@@ -40,7 +42,7 @@ pub trait Node<const WORDS: usize, const MOST: usize> {
         ensures value { result ≡ words self.now n }
         ensures made { length (held self.now) ≤ MOST → (item self.now ≡ node_item kind (20 + 4 * WORDS + length (held self.now)) (words self.now (length (held self.now))) sums (held self.now)) × (sum (held self.now) < 2 ^ 32 → trip self.now) };
 
-    // The sums of what stands before them and of what is held, in the order of this kind.
+    // The two sums in the order of this kind: of what stands before them, and of what is held.
     fn sums(&self, before: u32, behind: u32) -> [u32; 2]
         ensures { result ≡ sums before behind };
 
