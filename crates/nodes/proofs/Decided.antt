@@ -1,7 +1,7 @@
 -- What stands at a place, as the reader decides it step by step from the bytes of the block from there on.
 use Rattle.std.proofs.Common.{◌≡◌, ℕ, ◌<◌, ◌≤◌, Bool, true, false, cond, eqb, leb, List, length, take, Some, None, Option, Bor, sym, refl, ap, ◌∙◌, subst, arith, length-take}
 use Rattle.std.proofs.lemmas.List.{length-take-le}
-use Rattle.std.proofs.lemmas.Bool.{leb-true, leb-false, le-leb, lt-leb, eq-eqb, cond-true, cond-false}
+use Rattle.std.proofs.lemmas.Bool.{leb-true, leb-false, le-leb, lt-leb, eq-eqb, ne_eqb, cond-true, cond-false}
 use Rattle.std.specs.Bool.{then_some}
 use Rattle.flash.specs.Cells.{front}
 use Rattle.kinds.specs.declared.Kind.TheVariants as kinds
@@ -58,12 +58,15 @@ front_some t n r b f e h l k = subst (IsFront t n) (sym e) (go b (sym (h ∙ rea
     go true e = (e, k)
     go false e = e
 
--- the word that the code reads of the first four bytes
-pub word_read : (bs word : List ℕ) → word ≡ take 4 bs → le32 word 0 ≡ le32 bs 0
-word_read bs word e = ap (λ w. le32 w 0) e ∙ le32_cut bs 4 0 (omega arith)
+-- the word w that the code reads of the first four bytes
+pub word_read : (bs : List ℕ) {word : List ℕ} {w : ℕ} → word ≡ take 4 bs → w ≡ le32 word 0 → w ≡ le32 bs 0
+word_read bs e r = r ∙ ap (λ s. le32 s 0) e ∙ le32_cut bs 4 0 (omega arith)
 
-pub word_long : (fs : List Bool) (at : ℕ) (bs word : List ℕ) → (reaching fs at bs 4 ≡ true) × (word ≡ take 4 bs) → 4 ≤ length word
-word_long fs at bs word f = let l = reaching_length fs at bs 4 f.0 in omega (arith, ap length f.1, length-take-le 4 bs l)
+pub word_other : (bs : List ℕ) {word : List ℕ} {w : ℕ} → word ≡ take 4 bs → w ≡ le32 word 0 → (w ≡ 0 → ⊥) → is_word bs ≡ false
+word_other bs e r n = ne_eqb _ 0 (λ z. n (word_read bs e r ∙ z))
+
+pub word_long : (fs : List Bool) (at : ℕ) (bs : List ℕ) {word : List ℕ} → (reaching fs at bs 4 ≡ true) × (word ≡ take 4 bs) → 4 ≤ length word
+word_long fs at bs f = let l = reaching_length fs at bs 4 f.0 in omega (arith, ap length f.1, length-take-le 4 bs l)
 
 pub none_word : (fs : List Bool) (at : ℕ) (bs : List ℕ) → reaching fs at bs 4 ≡ false → None ≡ sized (stands (seen_from fs at bs))
 none_word fs at bs e = sym (ap sized (stands_is fs at bs ∙ none_short (length bs) bs (got fs at bs) (leb-false _ _ e)))
@@ -81,23 +84,23 @@ none_head fs at bs r w e =
 
 none_passing : (a b : Bool) (h : Head) → a ≡ true → None ≡ cond a (cond b (Some h) None) None → b ≡ false
 none_passing a false h t e = refl
-none_passing true true h t e = absurd (let z : ◌≡◌ {A = ℕ} 0 1 = cc in omega arith)
-none_passing false true h t e = absurd (let z : ◌≡◌ {A = ℕ} 0 1 = cc in omega arith)
+none_passing true true h t e = cc
+none_passing false true h t e = cc
 
 some_passing : (a b : Bool) (g h : Head) → Some g ≡ cond a (cond b (Some h) None) None → (b ≡ true) × (g ≡ h)
 some_passing true true g h e = (refl, cc)
-some_passing true false g h e = absurd (let z : ◌≡◌ {A = ℕ} 0 1 = cc in omega arith)
-some_passing false b g h e = absurd (let z : ◌≡◌ {A = ℕ} 0 1 = cc in omega arith)
+some_passing true false g h e = cc
+some_passing false b g h e = cc
 
 pub passing_some : (bs : List ℕ) (h : Head) → Some h ≡ passing bs → (all (header (length bs) bs) ≡ true) × (h ≡ head bs)
 passing_some bs h e = some_passing (leb 12 (length bs)) (all (header (length bs) bs)) h (head bs) e
 
 given : {X : Type 0} (it : Item) (b : Bool) (e x : X) (v : X → View) → view it ≡ v x → Some e ≡ cond b (Some x) None → Some (v e) ≡ viewed (cond b (Some it) None)
 given it true e x v w h = cc
-given it false e x v w h = absurd (let z : ◌≡◌ {A = ℕ} 0 1 = cc in omega arith)
+given it false e x v w h = cc
 
 none_given : {X : Type 0} (it : Item) (b : Bool) (x : X) → None ≡ cond b (Some x) None → None ≡ viewed (cond b (Some it) None)
-none_given it true x h = absurd (let z : ◌≡◌ {A = ℕ} 0 1 = cc in omega arith)
+none_given it true x h = cc
 none_given it false x h = refl
 
 -- a place that is no zero word, and of which the header can be read
@@ -108,7 +111,7 @@ module _ (fs : List Bool) (at : ℕ) (bs : List ℕ) (twelve : reaching fs at bs
       sym (ap sized (stands_is fs at bs ∙ none_bad (length bs) bs (got fs at bs) (leb-true _ _ twelve) (got_within fs at bs) other b))
 
   sizes : (o : Option Item) → stands (seen_from fs at bs) ≡ o → (v : View) (n : ℕ) → Some v ≡ viewed o → n ≡ padded (totlen bs) → Some (v, n) ≡ sized o
-  sizes None s v n e p = absurd (let z : ◌≡◌ {A = ℕ} 0 1 = cc in omega arith)
+  sizes None s v n e p = cc
   sizes (Some it) s v n e p =
       let c = offered_cut (length bs) bs (got fs at bs) (leb-true _ _ twelve) (got_within fs at bs) other it (sym (stands_is fs at bs) ∙ s) in
       let r = reach_more bs other in
@@ -126,7 +129,7 @@ module _ (fs : List Bool) (at : ℕ) (bs : List ℕ) (twelve : reaching fs at bs
     where
       go : (o : Option Item) → None ≡ viewed o → None ≡ sized o
       go None e = refl
-      go (Some it) e = absurd (let z : ◌≡◌ {A = ℕ} 0 1 = cc in omega arith)
+      go (Some it) e = cc
 
 -- a place with a header that passes
 module _ {fs : List Bool} {at : ℕ} {bs : List ℕ} {h : Head} (headed : Headed fs at bs h) where

@@ -124,5 +124,5 @@ module _ (room : ℕ) (bs : List ℕ) (m : ℕ) (twelve : 12 ≤ m) (within : m 
     where
       some_of : (a b : Bool) (x y : Item) → cond a (cond b (Some x) None) None ≡ Some y → x ≡ y
       some_of true true x y e = cc
-      some_of true false x y e = absurd (let z : ◌≡◌ {A = ℕ} 0 1 = cc in omega arith)
-      some_of false b x y e = absurd (let z : ◌≡◌ {A = ℕ} 0 1 = cc in omega arith)
+      some_of true false x y e = cc
+      some_of false b x y e = cc

@@ -35,7 +35,7 @@ whole_node cs it s w k =
     go : (x y : Bool) → (x ≡ true) ⊎ (y ≡ true) → cond x (max 12 (totlen it)) (cond y (max 12 (totlen it)) 12) ≡ max 12 (totlen it)
     go true y k = refl
     go false true k = refl
-    go false false k = absurd (⊎_elim (λ (e : false ≡ true). let z : ◌≡◌ {A = ℕ} 0 1 = cc in omega arith) (λ (e : false ≡ true). let z : ◌≡◌ {A = ℕ} 0 1 = cc in omega arith) k)
+    go false false k = ⊎_elim (λ (e : false ≡ true). cc) (λ (e : false ≡ true). cc) k
 
 -- the offence by what the item is, and the offence by its bytes
 pub offence_view : (cs : List Cell) (it : Item) → stands cs ≡ Some it → offence_of (view it) ≡ offence it

@@ -12,21 +12,21 @@ use Rattle.nodes.proofs.Standing.{reads_stands}
 pub alike_take : (n : ℕ) (xs ys : List Cell) → alike n xs ys ≡ true → take n xs ≡ take n ys
 unfolding alike
 alike_take zero xs ys e = refl
-alike_take (suc n) [] ys e = absurd (let z : ◌≡◌ {A = ℕ} 0 1 = cc in omega arith)
-alike_take (suc n) (lost ∷ xs) ys e = absurd (let z : ◌≡◌ {A = ℕ} 0 1 = cc in omega arith)
-alike_take (suc n) (byte a ∷ xs) [] e = absurd (let z : ◌≡◌ {A = ℕ} 0 1 = cc in omega arith)
-alike_take (suc n) (byte a ∷ xs) (lost ∷ ys) e = absurd (let z : ◌≡◌ {A = ℕ} 0 1 = cc in omega arith)
+alike_take (suc n) [] ys e = cc
+alike_take (suc n) (lost ∷ xs) ys e = cc
+alike_take (suc n) (byte a ∷ xs) [] e = cc
+alike_take (suc n) (byte a ∷ xs) (lost ∷ ys) e = cc
 alike_take (suc n) (byte a ∷ xs) (byte b ∷ ys) e = go (alike_take n xs ys) (eqb a b) refl e
   where
     go : (alike n xs ys ≡ true → take n xs ≡ take n ys) → (t : Bool) → eqb a b ≡ t → cond t (alike n xs ys) false ≡ true → take (suc n) (byte a ∷ xs) ≡ take (suc n) (byte b ∷ ys)
     go below true t e = let h = below e in let s = eqb-true a b t in cc
-    go below false t e = absurd (let z : ◌≡◌ {A = ℕ} 0 1 = cc in omega arith)
+    go below false t e = cc
 
 pub alike_cells : (bs : List ℕ) (ys : List Cell) → take (length bs) ys ≡ cells bs → alike (length bs) (cells bs) ys ≡ true
 unfolding alike
 alike_cells [] ys e = refl
-alike_cells (b ∷ bs) [] e = absurd (let z : ◌≡◌ {A = ℕ} 0 1 = cc in omega arith)
-alike_cells (b ∷ bs) (lost ∷ ys) e = absurd (let z : ◌≡◌ {A = ℕ} 0 1 = cc in omega arith)
+alike_cells (b ∷ bs) [] e = cc
+alike_cells (b ∷ bs) (lost ∷ ys) e = cc
 alike_cells (b ∷ bs) (byte c ∷ ys) e =
     let t : b ≡ c = cc in
     let r : take (length bs) ys ≡ cells bs = cc in

@@ -68,11 +68,12 @@ pub record Step (xs : List Cell) (p : ℕ) (v : View) (n : ℕ) : Type 0 where
   pub others : walk_from xs (p + n) ≡ behind (walk_from xs p)
   pub finds : (b : ℕ) → map (found_at b) (walk_from xs p) ≡ (record { block = b; offset = p }, v) ∷ map (found_at b) (walk_from xs (p + n))
 
-pub step : (xs : List Cell) (p : ℕ) (v : View) (n : ℕ) → Some (v, n) ≡ views.sized (stands (drop p xs)) → Step xs p v n
-step xs p v n e = go (stands (drop p xs)) refl e
+-- where cs are the cells from p on
+pub step : (xs : List Cell) (p : ℕ) {v : View} {n : ℕ} {cs : List Cell} → cs ≡ drop p xs → Some (v, n) ≡ views.sized (stands cs) → Step xs p v n
+step xs p {v = v} {n = n} c e = go (stands (drop p xs)) refl (e ∙ ap (λ l. views.sized (stands l)) c)
   where
     go : (o : Option Item) → stands (drop p xs) ≡ o → Some (v, n) ≡ views.sized o → Step xs p v n
-    go None s e = absurd (let z : ◌≡◌ {A = ℕ} 0 1 = cc in omega arith)
+    go None s e = cc
     go (Some it) s e =
         let r = sized (drop p xs) it (stands_reads (drop p xs) it s) in
         let q : ◌≡◌ {A = View × ℕ} (v, n) (view it, size it) = cc in
@@ -87,12 +88,12 @@ step xs p v n e = go (stands (drop p xs)) refl e
           finds = λ b. ap (map (found_at b)) w ∙ ap (λ f. f ∷ map (found_at b) (walk_from xs (p + n))) (found b);
         }
 
-pub stop : (xs : List Cell) (p : ℕ) → None ≡ views.sized (stands (drop p xs)) → walk_from xs p ≡ []
-stop xs p e = go (stands (drop p xs)) refl e
+pub stop : (xs : List Cell) (p : ℕ) {cs : List Cell} → cs ≡ drop p xs → None ≡ views.sized (stands cs) → walk_from xs p ≡ []
+stop xs p c e = go (stands (drop p xs)) refl (e ∙ ap (λ l. views.sized (stands l)) c)
   where
     go : (o : Option Item) → stands (drop p xs) ≡ o → None ≡ views.sized o → walk_from xs p ≡ []
     go None s e = none_at xs p s
-    go (Some it) s e = absurd (let z : ◌≡◌ {A = ℕ} 0 1 = cc in omega arith)
+    go (Some it) s e = cc
 
 -- a reader's start: at the marker, or at the end
 pub start : (xs : List Cell) (b : Bool) (p : ℕ) → b ≡ marked xs → p ≡ cond b 0 (length xs) → walk_from xs p ≡ walk xs

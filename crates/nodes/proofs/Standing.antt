@@ -62,8 +62,8 @@ module _ (a r : List ℕ) (four : 4 ≤ length a) where
 
 chosen : (b c : Bool) (x it : Item) → cond b (cond c (Some x) None) None ≡ Some it → (b ≡ true) × (c ≡ true) × (x ≡ it)
 chosen true true x it e = (refl, refl, cc)
-chosen true false x it e = absurd (let z : ◌≡◌ {A = ℕ} 0 1 = cc in omega arith)
-chosen false c x it e = absurd (let z : ◌≡◌ {A = ℕ} 0 1 = cc in omega arith)
+chosen true false x it e = cc
+chosen false c x it e = cc
 
 split_reach : (a r : List ℕ) → reach (a ++ r) ≡ length a → reach a ≡ length a
 split_reach a r e =
@@ -101,12 +101,12 @@ pub at_all : (bs : List Bool) → all bs ≡ true → (k : ℕ) → get_or bs k 
 at_all [] e k = refl
 at_all (true ∷ bs) e zero = refl
 at_all (true ∷ bs) e (suc k) = at_all bs e k
-at_all (false ∷ bs) e k = absurd (let z : ◌≡◌ {A = ℕ} 0 1 = cc in omega arith)
+at_all (false ∷ bs) e k = cc
 
 second : (a b c : Bool) → a ≡ false → cond a true (cond b c false) ≡ true → b ≡ true
 second a true c f e = refl
-second true false c f e = absurd (let z : ◌≡◌ {A = ℕ} 0 1 = cc in omega arith)
-second false false c f e = absurd (let z : ◌≡◌ {A = ℕ} 0 1 = cc in omega arith)
+second true false c f e = cc
+second false false c f e = cc
 
 -- the header of what is no zero word passes
 pub headed : (room : ℕ) (it : Item) → is_word it ≡ false → passes room it ≡ true → all (header room it) ≡ true
@@ -141,15 +141,15 @@ sized cs it r =
 
 last_test : (a b c d e f : Bool) → all (a ∷ b ∷ c ∷ d ∷ e ∷ []) ≡ true → f ≡ true → all (a ∷ b ∷ c ∷ d ∷ f ∷ []) ≡ true
 last_test true true true true e f p q = ap (λ x. cond x true false) q
-last_test false b c d e f p q = absurd (let z : ◌≡◌ {A = ℕ} 0 1 = cc in omega arith)
-last_test true false c d e f p q = absurd (let z : ◌≡◌ {A = ℕ} 0 1 = cc in omega arith)
-last_test true true false d e f p q = absurd (let z : ◌≡◌ {A = ℕ} 0 1 = cc in omega arith)
-last_test true true true false e f p q = absurd (let z : ◌≡◌ {A = ℕ} 0 1 = cc in omega arith)
+last_test false b c d e f p q = cc
+last_test true false c d e f p q = cc
+last_test true true false d e f p q = cc
+last_test true true true false e f p q = cc
 
 swap_test : (w h k c : Bool) → (w ≡ false → h ≡ true → k ≡ true) → cond w true (cond h c false) ≡ true → cond w true (cond k c false) ≡ true
 swap_test true h k c f e = refl
 swap_test false true k c f e = ap (λ x. cond x c false) (f refl refl) ∙ e
-swap_test false false k c f e = absurd (let z : ◌≡◌ {A = ℕ} 0 1 = cc in omega arith)
+swap_test false false k c f e = cc
 
 size_more : (it : Item) → is_word it ≡ false → size it ≡ padded (totlen it)
 unfolding size

@@ -1,5 +1,5 @@
 -- What an item is, by its kind.
-use Rattle.std.proofs.Common.{◌≡◌, ℕ, Bool, true, false, cond, eqb, Some, None, refl, ap, ◌∙◌, arith}
+use Rattle.std.proofs.Common.{◌≡◌, ℕ, Bool, true, false, cond, eqb, Some, None, refl, ap, ◌∙◌}
 use Rattle.std.proofs.lemmas.Bool.{eqb-true, cond-true, cond-false}
 use Rattle.kinds.specs.declared.Kind.{Kind}
 use Rattle.kinds.specs.declared.Kind.TheVariants.{Marker, Padding, Entry, Content}
@@ -17,17 +17,17 @@ kind_known v k e = go (eqb v 0x2003) (eqb v 0x2004) (eqb v 0xE001) (eqb v 0xE002
     go false true c d p q r s e = let h = q refl in cc
     go false false true d p q r s e = let h = r refl in cc
     go false false false true p q r s e = let h = s refl in cc
-    go false false false false p q r s e = absurd (let z : ◌≡◌ {A = ℕ} 0 1 = cc in omega arith)
+    go false false false false p q r s e = cc
 
 pub kind_unknown : (v : ℕ) → kind_with v ≡ None → (eqb v 0x2003 ≡ false) × (eqb v 0x2004 ≡ false) × (eqb v 0xE001 ≡ false) × (eqb v 0xE002 ≡ false)
 kind_unknown v e = go (eqb v 0x2003) (eqb v 0x2004) (eqb v 0xE001) (eqb v 0xE002) e
   where
     go : (a b c d : Bool) → cond a (Some Marker) (cond b (Some Padding) (cond c (Some Entry) (cond d (Some Content) None))) ≡ None → (a ≡ false) × (b ≡ false) × (c ≡ false) × (d ≡ false)
     go false false false false e = (refl, refl, refl, refl)
-    go true b c d e = absurd (let z : ◌≡◌ {A = ℕ} 0 1 = cc in omega arith)
-    go false true c d e = absurd (let z : ◌≡◌ {A = ℕ} 0 1 = cc in omega arith)
-    go false false true d e = absurd (let z : ◌≡◌ {A = ℕ} 0 1 = cc in omega arith)
-    go false false false true e = absurd (let z : ◌≡◌ {A = ℕ} 0 1 = cc in omega arith)
+    go true b c d e = cc
+    go false true c d e = cc
+    go false false true d e = cc
+    go false false false true e = cc
 
 -- what is no zero word, of a kind with this value
 abbrev of_kind : ℕ → Item → View

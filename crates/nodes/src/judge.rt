@@ -90,6 +90,7 @@ fn unknown_offence(kind: u16) -> Option<Refusal>
 }
 
 // Why a mount refuses an entry of n bytes, if it does.
+#[tactic(auto, unfolding(crate::specs::Offences::entry_offence))]
 fn entry_offence(n: usize, e: &Entry<'_>) -> Option<Refusal>
     ensures { result ≡ entry_offence n (entry_shown e.now) }
 {
@@ -97,6 +98,7 @@ fn entry_offence(n: usize, e: &Entry<'_>) -> Option<Refusal>
 }
 
 // Why a mount refuses a content of n bytes, if it does: its compression has to be known, and its fields have to fit.
+#[tactic(auto, unfolding(crate::specs::Offences::content_offence))]
 fn content_offence(n: usize, c: &Content<'_>) -> Option<Refusal>
     ensures { result ≡ content_offence n (content_shown c.now) }
 {
@@ -108,6 +110,7 @@ fn content_offence(n: usize, c: &Content<'_>) -> Option<Refusal>
 
 impl<'a> Item<'a> {
     // Why a mount refuses the item, if it does.
+    #[tactic(auto, using(crate::proofs::Judging::judged))]
     pub fn offence(&self) -> Option<Refusal>
         ensures value { result ≡ offence_of (item_shown self.now) }
         ensures judged { Judged (item_shown self.now) result }

@@ -1,53 +1,50 @@
-use Rattle.std.proofs.Common.{◌≡◌, false, sym, ap, ◌∙◌}
-use Rattle.std.proofs.lemmas.Bool.{ne_eqb}
+use Rattle.std.proofs.Common.{sym, ap, ◌∙◌}
 use Rattle.nodes.specs.Fields.{padded}
-use Rattle.nodes.specs.Items.{is_word}
 use Rattle.nodes.specs.Views.{standing_shown}
-use Rattle.nodes.proofs.Decided.{word_read, word_long, none_word, word_sized, none_head, none_sound, none_sized, some_sized, passing_some}
+use Rattle.nodes.proofs.Decided.{word_read, word_other, word_long, none_word, word_sized, none_head, none_sound, none_sized, some_sized, passing_some}
 use Rattle.nodes.proofs.tail.Tail.standing.Goals as goal
 
 pub returns-in_err-word : goal.returns-in_err-word
 returns-in_err-word c = let t = c.args.self in ap standing_shown c.from_residual.ensures ∙ none_word t.readable.now t.at t.bytes.now c.in_err-word.ensures
 
 pub le_u32-requires : goal.le_u32-requires
-le_u32-requires c = let t = c.args.self in word_long t.readable.now t.at t.bytes.now _ c.in_ok-word.ensures
+le_u32-requires c = let t = c.args.self in word_long t.readable.now t.at t.bytes.now c.in_ok-word.ensures
 
 pub returns-then-le_u32-eq0 : goal.returns-then-le_u32-eq0
 returns-then-le_u32-eq0 c =
     let t = c.args.self in
     let word = c.in_ok-word.ensures in
-    word_sized t.readable.now t.at t.bytes.now word.0 (sym (c.le_u32.ensures ∙ word_read t.bytes.now _ word.1) ∙ c.if-le_u32-eq0.true)
+    word_sized t.readable.now t.at t.bytes.now word.0 (sym (word_read t.bytes.now word.1 c.le_u32.ensures) ∙ c.if-le_u32-eq0.true)
 
 pub returns-in_err-front : goal.returns-in_err-front
 returns-in_err-front c =
     let t = c.args.self in
     let word = c.in_ok-word.ensures in
-    let other : is_word t.bytes.now ≡ false = ne_eqb _ 0 (λ e. c.if-le_u32-eq0.false (c.le_u32.ensures ∙ word_read t.bytes.now _ word.1 ∙ e)) in
-    ap standing_shown c.from_residual-in_err-front.ensures ∙ none_head t.readable.now t.at t.bytes.now word.0 other c.in_err-front.ensures
+    ap standing_shown c.from_residual-in_err-front.ensures
+    ∙ none_head t.readable.now t.at t.bytes.now word.0 (word_other t.bytes.now word.1 c.le_u32.ensures c.if-le_u32-eq0.false) c.in_err-front.ensures
 
 pub returns-in_err-header : goal.returns-in_err-header
 returns-in_err-header c =
     let t = c.args.self in
-    let other : is_word t.bytes.now ≡ false = ne_eqb _ 0 (λ e. c.if-le_u32-eq0.false (c.le_u32.ensures ∙ word_read t.bytes.now _ c.in_ok-word.ensures.1 ∙ e)) in
     ap standing_shown c.from_residual-in_err-header.ensures
-    ∙ none_sound t.readable.now t.at t.bytes.now c.in_ok-front.ensures.0 other c.in_err-header.ensures
+    ∙ none_sound t.readable.now t.at t.bytes.now c.in_ok-front.ensures.0 (word_other t.bytes.now c.in_ok-word.ensures.1 c.le_u32.ensures c.if-le_u32-eq0.false) c.in_err-header.ensures
 
 pub item-requires : goal.item-requires
 item-requires c =
-    let t = c.args.self in
-    let other : is_word t.bytes.now ≡ false = ne_eqb _ 0 (λ e. c.if-le_u32-eq0.false (c.le_u32.ensures ∙ word_read t.bytes.now _ c.in_ok-word.ensures.1 ∙ e)) in
-    record { all_read = c.in_ok-front.ensures.0; no_word = other; passes = c.in_ok-header.ensures }
+    record {
+      all_read = c.in_ok-front.ensures.0;
+      no_word = word_other c.args.self.bytes.now c.in_ok-word.ensures.1 c.le_u32.ensures c.if-le_u32-eq0.false;
+      passes = c.in_ok-header.ensures;
+    }
 
 pub returns-in_err-item : goal.returns-in_err-item
 returns-in_err-item c =
     let t = c.args.self in
-    let other : is_word t.bytes.now ≡ false = ne_eqb _ 0 (λ e. c.if-le_u32-eq0.false (c.le_u32.ensures ∙ word_read t.bytes.now _ c.in_ok-word.ensures.1 ∙ e)) in
     ap standing_shown c.from_residual-in_err-item.ensures
-    ∙ none_sized t.readable.now t.at t.bytes.now c.in_ok-front.ensures.0 other c.in_err-item.ensures
+    ∙ none_sized t.readable.now t.at t.bytes.now c.in_ok-front.ensures.0 (word_other t.bytes.now c.in_ok-word.ensures.1 c.le_u32.ensures c.if-le_u32-eq0.false) c.in_err-item.ensures
 
 pub returns : goal.returns
 returns c =
     let t = c.args.self in
-    let other : is_word t.bytes.now ≡ false = ne_eqb _ 0 (λ e. c.if-le_u32-eq0.false (c.le_u32.ensures ∙ word_read t.bytes.now _ c.in_ok-word.ensures.1 ∙ e)) in
-    some_sized t.readable.now t.at t.bytes.now c.in_ok-front.ensures.0 other _ c.padded_len.result c.in_ok-item.ensures
+    some_sized t.readable.now t.at t.bytes.now c.in_ok-front.ensures.0 (word_other t.bytes.now c.in_ok-word.ensures.1 c.le_u32.ensures c.if-le_u32-eq0.false) _ c.padded_len.result c.in_ok-item.ensures
     (c.padded_len.ensures ∙ ap (λ h. padded h.totlen) (passing_some t.bytes.now _ c.in_ok-header.ensures).1)
