@@ -6,7 +6,7 @@ use Rattle.std.specs.Int.{div_ceil}
 use Rattle.std.specs.List.{list_all, slice_range}
 use Rattle.std.specs.Slice.{IsGetRangeResult}
 use Rattle.std.proofs.lemmas.Bool.{cond-true, cond-false, cases_lt, true≢false, false≢true}
-use Rattle.flash.specs.Cells.{byte, lost, cells, front}
+use Rattle.flash.specs.Cells.{byte, lost, front}
 use Rattle.nodes.specs.Seen.{seen_from, readable}
 
 pub length_seen : (fs : List Bool) (at : ℕ) (bs : List ℕ) → length (seen_from fs at bs) ≡ length bs
@@ -52,13 +52,13 @@ falls_short fs at (suc n) (b ∷ bs) e = go (get_or fs (at / 4) false) (falls_sh
     go false below e = omega arith
 
 -- the flags of all words that the bytes lie in
-pub readable_all : (fs : List Bool) (at n : ℕ) → ((k : ℕ) → at / 4 ≤ k → 4 * k < at + n → get_or fs k false ≡ true) → readable fs at n ≡ true
+readable_all : (fs : List Bool) (at n : ℕ) → ((k : ℕ) → at / 4 ≤ k → 4 * k < at + n → get_or fs k false ≡ true) → readable fs at n ≡ true
 unfolding readable
 readable_all fs at zero h = refl
 readable_all fs at (suc n) h =
     cond-true _ _ _ (h (at / 4) (omega arith) (omega arith)) ∙ readable_all fs (suc at) n (λ k l m. h k (omega arith) (omega arith))
 
-pub readable_not : (fs : List Bool) (at n k : ℕ) → 0 < n → at / 4 ≤ k → 4 * k < at + n → get_or fs k false ≡ false → readable fs at n ≡ false
+readable_not : (fs : List Bool) (at n k : ℕ) → 0 < n → at / 4 ≤ k → 4 * k < at + n → get_or fs k false ≡ false → readable fs at n ≡ false
 unfolding readable
 readable_not fs at zero k p l m e = absurd (omega arith)
 readable_not fs at (suc n) k p l m e =
@@ -70,16 +70,6 @@ readable_not fs at (suc n) k p l m e =
     go : (t : Bool) → readable fs (suc at) n ≡ false → cond t (readable fs (suc at) n) false ≡ false
     go true h = h
     go false h = refl
-
-pub take_seen : (fs : List Bool) (at n : ℕ) (bs : List ℕ) → n ≤ length (front (seen_from fs at bs)) → take n (seen_from fs at bs) ≡ cells (take n bs)
-unfolding seen_from front
-take_seen fs at zero bs h = refl
-take_seen fs at (suc n) [] h = refl
-take_seen fs at (suc n) (b ∷ bs) h = go (get_or fs (at / 4) false) (take_seen fs (suc at) n bs) h
-  where
-    go : (t : Bool) → (n ≤ length (front (seen_from fs (suc at) bs)) → take n (seen_from fs (suc at) bs) ≡ cells (take n bs)) → suc n ≤ length (front (cond t (byte b) lost ∷ seen_from fs (suc at) bs)) → cond t (byte b) lost ∷ take n (seen_from fs (suc at) bs) ≡ byte b ∷ cells (take n bs)
-    go true below h = ap (λ l. byte b ∷ l) (below (omega arith))
-    go false below h = absurd (omega arith)
 
 -- the flags of the words from a up to b, as the code looks at them
 unset : (xs : List Bool) → list_all (λ x. x) xs ≡ false → (k : ℕ) × (k < length xs) × (get_or xs k false ≡ false)

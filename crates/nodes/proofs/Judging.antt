@@ -38,7 +38,7 @@ whole_node cs it s w k =
     go false false k = ⊎_elim (λ (e : false ≡ true). cc) (λ (e : false ≡ true). cc) k
 
 -- the offence by what the item is, and the offence by its bytes
-pub offence_view : (cs : List Cell) (it : Item) → stands cs ≡ Some it → offence_of (view it) ≡ offence it
+offence_view : (cs : List Cell) (it : Item) → stands cs ≡ Some it → offence_of (view it) ≡ offence it
 unfolding view offence
 offence_view cs it s =
     go (is_word it) (eqb (kind it) 0x2003) (eqb (kind it) 0x2004) (eqb (kind it) 0xE001) (eqb (kind it) 0xE002) (leb 0x8000 (kind it)) refl

@@ -1,51 +1,20 @@
 -- A reader's start and its steps, against the walk.
-use Rattle.std.proofs.Common.{◌≡◌, ℕ, ◌+◌, ◌-◌, ◌<◌, ◌≤◌, MatchOption, Decides, Bor, Bool, true, false, cond, List, [], ◌∷◌, ◌++◌, length, map, take, drop, Some, None, Option, sym, refl, ap, ◌∙◌, arith, length-drop}
-use Rattle.std.proofs.lemmas.Slice.Eq.{bytes_eq-Decides}
-use Rattle.std.proofs.lemmas.List.{take_rest, take-take, take-append-drop}
-use Rattle.std.proofs.lemmas.Bool.{leb-true, le-leb, both_ways}
-use Rattle.flash.specs.Cells.{Cell, cells, front}
-use Rattle.std.specs.Str.{bytes_eq}
+use Rattle.std.proofs.Common.{◌≡◌, ℕ, ◌+◌, ◌-◌, ◌<◌, ◌≤◌, Bool, true, false, cond, List, [], ◌∷◌, length, map, take, drop, Some, None, Option, sym, refl, ap, ◌∙◌, arith, length-drop}
+use Rattle.std.proofs.lemmas.List.{take_rest}
+use Rattle.std.proofs.lemmas.Iterator.{YieldsList}
+use Rattle.std.proofs.lemmas.Iterator.Consumers.{YieldsList-from_shown}
+use Rattle.flash.specs.Cells.{Cell}
 use Rattle.nodes.specs.Items.{Item, stands, size}
-use Rattle.nodes.specs.Seen.{seen, seen_from, reaching}
+use Rattle.nodes.specs.Seen.{seen, seen_from}
 use Rattle.nodes.specs.Views as views
 use Rattle.nodes.specs.Views.{View, view}
-use Rattle.nodes.specs.Walk.{walk, walk_from, marked, marker}
-use Rattle.nodes.specs.Reading.{found_at, first_of, behind}
-use Rattle.nodes.specs.declared.tail.Tail.{Tail}
-use Rattle.nodes.specs.Tail.{seen_behind, IsFront}
-use Rattle.nodes.proofs.Standing.{front_cells, stands_reads, sized}
+use Rattle.nodes.specs.Walk.{walk, walk_from, marked}
+use Rattle.nodes.specs.declared.reader.Reader.{Reader}
+use Rattle.nodes.specs.Reading.{rest, found_at, to_find, first_of, behind, found_as, HandsOut}
+use Rattle.nodes.proofs.Standing.{stands_reads, sized}
 use Rattle.nodes.proofs.Walks.{item_at, none_at}
-use Rattle.nodes.proofs.Marks.{marked_cells, cells_marked, walk_marked, walk_bare}
-use Rattle.nodes.proofs.Cuts.{drop_seen, front_seen, take_seen}
-
-seen_marked : (t : Tail) → marked (seen_behind t) ≡ true → (reaching t.readable.now t.at t.bytes.now 12 ≡ true) × (take 12 t.bytes.now ≡ marker)
-seen_marked t m =
-    let xs = seen_behind t in
-    let f : front xs ≡ marker ++ front (drop 12 xs) =
-    ap front (sym (take-append-drop 12 xs) ∙ ap (λ l. l ++ drop 12 xs) (marked_cells xs m)) ∙ front_cells marker (drop 12 xs) in
-    let l : 12 ≤ length (front xs) = omega (arith, ap length f) in (
-      le-leb _ _ l,
-      sym (take-take 12 (length (front xs)) t.bytes.now l) ∙ ap (take 12) (sym (front_seen t.readable.now t.at t.bytes.now)) ∙ ap (take 12) f,
-    )
-
--- the code's test of the first twelve bytes
-pub marked_front : (t : Tail) (o : Option (Bor (List ℕ))) (r : Bool) (P : Bor (List ℕ) → Type 0) → IsFront t 12 o → MatchOption o (r ≡ false) P → ((bs : Bor (List ℕ)) → P bs → r ≡ bytes_eq bs.now marker) → r ≡ marked (seen_behind t)
-marked_front t (Some bs) r P f h says = go r (says bs h) (marked (seen_behind t)) refl
-  where
-    is : Decides (bytes_eq bs.now marker) (bs.now ≡ marker)
-    is = bytes_eq-Decides bs.now marker
-
-    go : (r : Bool) → r ≡ bytes_eq bs.now marker → (m : Bool) → marked (seen_behind t) ≡ m → r ≡ m
-    go true h m k =
-        let cut : take 12 (seen_behind t) ≡ cells (take 12 t.bytes.now) = take_seen t.readable.now t.at 12 t.bytes.now (leb-true _ _ f.0) in
-        sym (cells_marked (seen_behind t) (cut ∙ ap cells (sym f.1 ∙ is.0 (sym h)))) ∙ k
-    go false h true k = h ∙ is.1 (f.1 ∙ (seen_marked t k).1)
-    go false h false k = refl
-marked_front t None r P f h says = go (marked (seen_behind t)) refl
-  where
-    go : (m : Bool) → marked (seen_behind t) ≡ m → r ≡ m
-    go false k = h
-    go true k = absurd (both_ways _ f (seen_marked t k).0)
+use Rattle.nodes.proofs.Marks.{walk_marked, walk_bare}
+use Rattle.nodes.proofs.Cuts.{drop_seen}
 
 -- what is left of a block, as the code has its bytes
 pub tail_seen : (fs : List Bool) (bs : List ℕ) (p : ℕ) → seen_from fs p (take (length bs - p) (drop p bs)) ≡ drop p (seen fs bs)
@@ -99,3 +68,13 @@ stop xs p c e = go (stands (drop p xs)) refl (e ∙ ap (λ l. views.sized (stand
 pub start : (xs : List Cell) (b : Bool) (p : ℕ) → b ≡ marked xs → p ≡ cond b 0 (length xs) → walk_from xs p ≡ walk xs
 start xs true p m e = ap (walk_from xs) e ∙ sym (walk_marked xs (sym m))
 start xs false p m e = walk_end xs p (omega arith) ∙ sym (walk_bare xs (sym m))
+
+-- a reader with nothing left
+pub none_left : (r : Reader) → rest r ≡ [] → HandsOut r None r
+none_left r e =
+    let none : to_find r ≡ [] = ap (map (found_at r.block)) e in
+    record { yields = (none, none); first = sym (ap (first_of r.block) e); others = e ∙ sym (ap behind e); block = refl; image = refl }
+
+-- what a reader hands out up to the end
+pub finds_all : (r : Reader) → YieldsList HandsOut found_as r (to_find r)
+finds_all r = YieldsList-from_shown HandsOut found_as to_find (λ s t h. ap length h.yields.0) (λ s f t h. h.yields) r

@@ -15,7 +15,7 @@ pub record Reads (cs : List Cell) (it : Item) : Type 0 where
   pub whole : reach it ≡ length it
   pub good : passes (length cs) it ≡ true
 
-pub front_cells : (it : Item) (r : List Cell) → front (cells it ++ r) ≡ it ++ front r
+front_cells : (it : Item) (r : List Cell) → front (cells it ++ r) ≡ it ++ front r
 unfolding front
 front_cells [] r = refl
 front_cells (b ∷ it) r = ap (λ l. b ∷ l) (front_cells it r)
@@ -151,10 +151,6 @@ swap_test true h k c f e = refl
 swap_test false true k c f e = ap (λ x. cond x c false) (f refl refl) ∙ e
 swap_test false false k c f e = cc
 
-size_more : (it : Item) → is_word it ≡ false → size it ≡ padded (totlen it)
-unfolding size
-size_more it e = cond-false _ _ _ e
-
 -- what passes passes where there is more room
 pub roomier : (m n : ℕ) (it : Item) → m ≤ n → passes m it ≡ true → passes n it ≡ true
 unfolding passes
@@ -176,11 +172,3 @@ moved xs ys it n e l t r =
       whole = r.whole;
       good = subst (λ k. passes k it ≡ true) e r.good;
     }
-
--- what passes passes where there is just room for it
-pub tighter : (room : ℕ) (it : Item) → passes room it ≡ true → passes (size it) it ≡ true
-unfolding passes
-tighter room it g =
-    swap_test (is_word it) (all (header room it)) (all (header (size it) it)) _
-    (λ w h. last_test (eqb (get_or it 0 0) 0x85) (eqb (get_or it 1 0) 0x19) (eqb (le32 it 8) (sum (take 8 it))) (leb 12 (totlen it)) (leb (padded (totlen it)) room) (leb (padded (totlen it)) (size it)) h
-    (le-leb (padded (totlen it)) (size it) (let k = size_more it w in omega arith))) g

@@ -7,7 +7,9 @@
 -- first_of       the first of a list of items, with its place in this block
 -- behind         those behind the first
 -- found_as, found_shown   what the code's item and its answer stand for
-use Rattle.std.specs.Prelude.{ℕ, ◌-◌, List, [], ◌∷◌, length, map, Some, None, Option}
+-- HandsOut       the reader's answer is the first item that it has still to hand out, and the others are left
+use Rattle.std.specs.Prelude.{◌≡◌, ℕ, ◌-◌, List, [], ◌∷◌, length, map, Some, None, Option}
+use Rattle.std.specs.Iterator.{YieldsFirstBy}
 use Rattle.flash.specs.declared.place.Place.{Place}
 use Rattle.nodes.specs.declared.reader.Reader.{Reader}
 use Rattle.nodes.specs.declared.reader.Found.{Found}
@@ -42,3 +44,11 @@ found_as f = (f.place, item_shown f.item)
 abbrev pub found_shown : Option Found → Option (Place × View)
 found_shown None = None
 found_shown (Some f) = Some (found_as f)
+
+-- where the reader s was asked for the next item, r is the answer, and t is the reader behind it
+pub record HandsOut (s : Reader) (r : Option Found) (t : Reader) : Type 0 where
+  pub yields : YieldsFirstBy found_as to_find s r t
+  pub first : found_shown r ≡ first_of s.block (rest s)
+  pub others : rest t ≡ behind (rest s)
+  pub block : t.block ≡ s.block
+  pub image : t.image ≡ s.image

@@ -1,5 +1,6 @@
 // A block as it was read.
-ghost use Rattle.std.specs.Prelude.{◌≡◌, ◌≤◌, length, drop};
+ghost use Rattle.std.specs.Prelude.{◌≡◌, ◌<◌, ◌≤◌, length, drop};
+ghost use Rattle.nodes.specs.Seen.{IsRead};
 ghost use Rattle.nodes.specs.Walk.{marked};
 
 use crate::tail::Tail;
@@ -33,12 +34,20 @@ impl<'a> Image<'a> {
         }
     }
 
+    // The n bytes at a place, if there are so many and they could all be read.
+    pub fn bytes_at(self, at: usize, n: usize) -> Option<&'a [u8]>
+        requires within { at ≤ length self.bytes.now }
+        requires some { 0 < n }
+        ensures { IsRead (drop at (seen_in self.entry)) n result }
+    {
+        self.tail(at).front(n)
+    }
+
     // Whether it begins with the marker, and this can be read.
     pub(crate) fn is_marked(self) -> bool
         ensures { result ≡ marked (seen_in self.entry) }
     {
-        self.tail(0)
-            .front(12)
-            .is_some_and(|front| front == MARKER.as_slice())
+        self.bytes_at(0, 12)
+            .is_some_and(|front| MARKER.as_slice() == front)
     }
 }

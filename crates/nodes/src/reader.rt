@@ -1,6 +1,6 @@
 // The walk of a block: its items, handed out one by one, each with its place. The reader goes over the block's bytes once;
 // names and data are parts of them.
-ghost use Rattle.std.specs.Prelude.{◌≡◌, ◌≤◌, length, ⊤};
+ghost use Rattle.std.specs.Prelude.{◌≡◌, ◌≤◌, length};
 ghost use Rattle.nodes.specs.Walk.{walk};
 
 use crate::image::Image;
@@ -42,24 +42,17 @@ impl<'a> Reader<'a> {
 }
 
 impl<'a> Iterator for Reader<'a> {
-    ghost use Rattle.std.specs.Iterator.{YieldsFirstBy, MakesProgress, at_most};
-    ghost use Rattle.nodes.specs.Reading.{rest, to_find, found_as, bytes_left, first_of, behind, found_shown};
+    ghost use Rattle.std.specs.Iterator.{at_most};
+    ghost use Rattle.nodes.specs.Reading.{HandsOut, bytes_left};
 
     type Item = Found<'a>;
 
-    ghost next_gives = { YieldsFirstBy found_as to_find };
+    ghost next_gives = { HandsOut };
 
     ghost remaining = { λ r. at_most (bytes_left r) };
 
     // The next item with its place, or nothing at the end of the walk.
-    fn next(&mut self) -> Option<Found<'a>>
-        ensures steps { YieldsFirstBy found_as to_find self.old result self.new }
-        ensures goes { MakesProgress (λ _. ⊤) (λ r. at_most (bytes_left r)) self.old result self.new }
-        ensures first { found_shown result ≡ first_of self.old.block (rest self.old) }
-        ensures others { rest self.new ≡ behind (rest self.old) }
-        ensures block { self.new.block ≡ self.old.block }
-        ensures image { self.new.image ≡ self.old.image }
-    {
+    fn next(&mut self) -> Option<Found<'a>> {
         let at = self.at;
         let standing = self.image.tail(at).standing()?;
         self.at = at + standing.size;

@@ -3,7 +3,7 @@ ghost use Rattle.std.specs.Prelude.{◌≡◌, ◌+◌, ◌^◌, ◌<◌, length
 ghost use Rattle.std.specs.List.{list_all};
 ghost use Rattle.nodes.specs.Items.{stands};
 ghost use Rattle.nodes.specs.Headers.{Headed, header_shown};
-ghost use Rattle.nodes.specs.Seen.{readable};
+ghost use Rattle.nodes.specs.Seen.{readable, IsRead};
 ghost use Rattle.nodes.specs.Views.{viewed, items_shown};
 
 use crate::bytes::le_u32;
@@ -44,13 +44,13 @@ fn readable_to(flags: &[bool], at: usize, n: usize) -> bool
 }
 
 impl<'a> Tail<'a> {
-    ghost use Rattle.nodes.specs.Tail.{seen_behind, IsFront};
+    ghost use Rattle.nodes.specs.Tail.{seen_behind};
     ghost use Rattle.nodes.specs.Views.{sized, standing_shown};
 
     // The first n bytes, if there are so many and they could all be read.
     pub(crate) fn front(self, n: usize) -> Option<&'a [u8]>
         requires { 0 < n }
-        ensures { IsFront self.entry n result }
+        ensures { IsRead (seen_behind self.entry) n result }
     {
         let front = self.bytes.get(..n)?;
         readable_to(self.readable, self.at, n).then_some(front)

@@ -8,26 +8,24 @@ returns-in_err-bytes-in-Ok-Entry c =
     ap items_shown c.from_residual.ensures ∙ entry_short c.requires (c.in-Ok-Entry.ensures ∙ ap Some c.in-Ok-Entry.field-0-is) c.in_err-bytes-in-Ok-Entry.ensures
 
 pub read_entry-requires : goal.read_entry-requires
-read_entry-requires c = node_length c.requires _ c.in_ok-bytes-in-Ok-Entry.ensures.1 c.in_ok-bytes-in-Ok-Entry.ensures.0
+read_entry-requires c = node_length c.requires c.in_ok-bytes-in-Ok-Entry.ensures
 
 pub returns-in_err-entry-in-Ok-Entry : goal.returns-in_err-entry-in-Ok-Entry
 returns-in_err-entry-in-Ok-Entry c =
-    let front = c.in_ok-bytes-in-Ok-Entry.ensures in
     ap items_shown c.from_residual-in_err-entry-in-Ok-Entry.ensures
-    ∙ entry_fails c.requires _ front.1 (c.in-Ok-Entry.ensures ∙ ap Some c.in-Ok-Entry.field-0-is) front.0 c.in_err-entry-in-Ok-Entry.ensures
+    ∙ entry_fails c.requires c.in_ok-bytes-in-Ok-Entry.ensures (c.in-Ok-Entry.ensures ∙ ap Some c.in-Ok-Entry.field-0-is) c.in_err-entry-in-Ok-Entry.ensures
 
 pub returns-in_err-bytes-in-Ok-Content : goal.returns-in_err-bytes-in-Ok-Content
 returns-in_err-bytes-in-Ok-Content c =
     ap items_shown c.from_residual-in_err-bytes-in-Ok-Content.ensures ∙ content_short c.requires (c.in-Ok-Content.ensures ∙ ap Some c.in-Ok-Content.field-0-is) c.in_err-bytes-in-Ok-Content.ensures
 
 pub read_content-requires : goal.read_content-requires
-read_content-requires c = node_length c.requires _ c.in_ok-bytes-in-Ok-Content.ensures.1 c.in_ok-bytes-in-Ok-Content.ensures.0
+read_content-requires c = node_length c.requires c.in_ok-bytes-in-Ok-Content.ensures
 
 pub returns-in_err-content-in-Ok-Content : goal.returns-in_err-content-in-Ok-Content
 returns-in_err-content-in-Ok-Content c =
-    let front = c.in_ok-bytes-in-Ok-Content.ensures in
     ap items_shown c.from_residual-in_err-content-in-Ok-Content.ensures
-    ∙ content_fails c.requires _ front.1 (c.in-Ok-Content.ensures ∙ ap Some c.in-Ok-Content.field-0-is) front.0 c.in_err-content-in-Ok-Content.ensures
+    ∙ content_fails c.requires c.in_ok-bytes-in-Ok-Content.ensures (c.in-Ok-Content.ensures ∙ ap Some c.in-Ok-Content.field-0-is) c.in_err-content-in-Ok-Content.ensures
 
 pub returns-in-Ok-Marker : goal.returns-in-Ok-Marker
 returns-in-Ok-Marker c = marker_viewed c.requires (c.in-Ok-Marker.ensures ∙ ap Some c.in-Ok-Marker.field-0-is)
@@ -37,13 +35,11 @@ returns-in-Ok-Padding c = padding_viewed c.requires (c.in-Ok-Padding.ensures ∙
 
 pub returns-in_ok-entry-in-Ok-Entry : goal.returns-in_ok-entry-in-Ok-Entry
 returns-in_ok-entry-in-Ok-Entry c =
-    let front = c.in_ok-bytes-in-Ok-Entry.ensures in
-    entry_viewed c.requires _ front.1 (c.in-Ok-Entry.ensures ∙ ap Some c.in-Ok-Entry.field-0-is) front.0 _ c.in_ok-entry-in-Ok-Entry.ensures
+    entry_viewed c.requires c.in_ok-bytes-in-Ok-Entry.ensures (c.in-Ok-Entry.ensures ∙ ap Some c.in-Ok-Entry.field-0-is) _ c.in_ok-entry-in-Ok-Entry.ensures
 
 pub returns-in_ok-content-in-Ok-Content : goal.returns-in_ok-content-in-Ok-Content
 returns-in_ok-content-in-Ok-Content c =
-    let front = c.in_ok-bytes-in-Ok-Content.ensures in
-    content_viewed c.requires _ front.1 (c.in-Ok-Content.ensures ∙ ap Some c.in-Ok-Content.field-0-is) front.0 _ c.in_ok-content-in-Ok-Content.ensures
+    content_viewed c.requires c.in_ok-bytes-in-Ok-Content.ensures (c.in-Ok-Content.ensures ∙ ap Some c.in-Ok-Content.field-0-is) _ c.in_ok-content-in-Ok-Content.ensures
 
 pub returns-in-Err : goal.returns-in-Err
 returns-in-Err c = unknown_viewed c.requires c.in-Err.ensures.0
