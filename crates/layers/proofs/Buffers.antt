@@ -13,7 +13,7 @@ use Rattle.flash.proofs.Chain.{chain_first, chain_failed}
 use Rattle.flash.proofs.Parts.{split_first, split_rest, split_then, split_failed, nothing_rest, nothing_then}
 use Rattle.layers.specs.Batch.{turn, begun}
 use Rattle.layers.specs.Buffered.{buffered, Holding}
-use Rattle.layers.specs.Laid.{means, Accepts, IsLaid, IsNear}
+use Rattle.layers.specs.WriteBuffer.{means, IsNear}
 use Rattle.layers.specs.Sanity.{sound_of, means-sane}
 use Rattle.layers.specs.declared.buffer.State.{State}
 use Rattle.layers.specs.declared.buffer.State.TheVariants.{Empty}
@@ -32,14 +32,14 @@ module _ (m : Meaning) {at at' : Place} {run run' : List ℕ} (e : (at' ≡ at) 
   same_goes : {r : Answer} {n : Meaning} → Goes m at'.block at'.offset run' r n → Goes m at.block at.offset run r n
   same_goes h = rw (← e.0, ← e.1) h
 
-module _ {F : Type 0} {g : Ghosts F} (sane : (x : F) → Sane (g.meaning x)) (w : WriteBuffer F g) (at : Place) (run : List ℕ) (none : Accepts w at (length run)) where
+module _ {F : Type 0} {g : Ghosts F} (sane : (x : F) → Sane (g.meaning x)) (w : WriteBuffer F g) (at : Place) (run : List ℕ) (none : program_refusal (means w) at.block at.offset (length run) ≡ None) where
   -- a run in two parts, of which the first is k bytes long
   module _ {k : ℕ} (within : k ≤ length run) (words : k % 4 ≡ 0) {at' : Place} {first : List ℕ} (is : (at' ≡ at) × (first ≡ take k run)) where
     pages : k % (means w).page ≡ 0
     unfolding buffered
     pages = words
 
-    pub first_accepted : Accepts w at' (length first)
+    pub first_accepted : program_refusal (means w) at'.block at'.offset (length first) ≡ None
     first_accepted = same_accepted (means w) is (split_first k run within (means w) at.block at.offset (means-sane sane w) none pages)
 
     pub in_first : {n : Meaning} {e : Refusal} → Goes (means w) at'.block at'.offset first (Err e) n → Goes (means w) at.block at.offset run (Err e) n
@@ -54,28 +54,28 @@ module _ {F : Type 0} {g : Ghosts F} (sane : (x : F) → Sane (g.meaning x)) (w 
           split_then k run within (means w) at.block at.offset (means-sane sane w) none pages n n' r (same_goes (means w) is h) (same_goes n is' h')
 
   -- a run after one of nothing
-  none_accepted : Accepts w at 0
+  none_accepted : program_refusal (means w) at.block at.offset 0 ≡ None
   none_accepted = chain_first (means w) at.block at.offset [] run (means-sane sane w) none (zero-mod (means w).page)
 
   -- the held batch was passed down before a run
   module _ {start : Place} (asked : Ok (Some start) ≡ turn w.state at.block at.offset w.batch) (v : WriteBuffer F g) (same : v.batch ≡ w.batch) (empty : v.state ≡ Empty) where
-    emptied : (r : Answer) → Programmed (g.meaning w.below) start.block start.offset (take w.batch w.held) r (g.meaning v.below) → IsLaid w at [] r v
+    emptied : (r : Answer) → Programmed (g.meaning w.below) start.block start.offset (take w.batch w.held) r (g.meaning v.below) → Goes (means w) at.block at.offset [] r (means v)
     emptied r p =
         let q = turn_first at.block at.offset w.batch w.state start asked in
         rw (empty, same) (tells_first (sound_of sane w) at.block at.offset start q.0 q.1 none_accepted r (g.meaning v.below) (sane v.below) p v.held)
 
-    pub not_emptied : {e : Refusal} → Programmed (g.meaning w.below) start.block start.offset (take w.batch w.held) (Err e) (g.meaning v.below) → IsLaid w at run (Err e) v
+    pub not_emptied : {e : Refusal} → Programmed (g.meaning w.below) start.block start.offset (take w.batch w.held) (Err e) (g.meaning v.below) → Goes (means w) at.block at.offset run (Err e) (means v)
     not_emptied {e} p = chain_failed (means w) at.block at.offset [] run (means-sane sane w) none (zero-mod (means w).page) (means v) e (emptied (Err e) p)
 
     module _ (p : Programmed (g.meaning w.below) start.block start.offset (take w.batch w.held) (Ok tt) (g.meaning v.below)) where
-      pub emptied_accepts : Accepts v at (length run)
+      pub emptied_accepts : program_refusal (means v) at.block at.offset (length run) ≡ None
       emptied_accepts = nothing_rest (means w) (means v) at.block at.offset run (means-sane sane w) none (emptied (Ok tt) p)
 
       pub emptied_then : {n : Meaning} {r : Answer} → Goes (means v) at.block at.offset run r n → Goes (means w) at.block at.offset run r n
       emptied_then {n} {r} = nothing_then (means w) (means v) n at.block at.offset run r (means-sane sane w) none (emptied (Ok tt) p)
 
 -- a run that stays in its batch
-module _ {F : Type 0} {g : Ghosts F} (sane : (x : F) → Sane (g.meaning x)) (w : WriteBuffer F g) (at : Place) (run : List ℕ) (none : Accepts w at (length run)) (near : IsNear w at)
+module _ {F : Type 0} {g : Ghosts F} (sane : (x : F) → Sane (g.meaning x)) (w : WriteBuffer F g) (at : Place) (run : List ℕ) (none : program_refusal (means w) at.block at.offset (length run) ≡ None) (near : IsNear w at)
     (short : at.offset % w.batch + length run < w.batch) (bytes : 0 < length run) (put : List ℕ) (is : put ≡ run) where
   abbrev into : ℕ
   into = at.offset % w.batch

@@ -3,7 +3,8 @@ use Rattle.std.proofs.Common.{◌≡◌, true, false, [], ◌∷◌, Some, None,
 use Rattle.flash.specs.declared.refusal.Refusal.TheVariants.{NoPower, Outside, NotPages, BelowMark, OtherHeld}
 use Rattle.flash.specs.Extent.{used}
 use Rattle.layers.specs.declared.buffer.State.TheVariants.{Empty}
-use Rattle.layers.specs.Batch.{up, filling, suits, turn, caused, begun, begins, left}
+use Rattle.layers.specs.Batch.{up, filling, suits, turn, begun, begins, left}
+use Rattle.layers.proofs.Refuse.{caused}
 
 used_of_blank : used (255 ∷ 255 ∷ []) ≡ 0
 used_of_blank = refl

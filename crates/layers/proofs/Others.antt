@@ -13,7 +13,7 @@ use Rattle.flash.proofs.Refusals.{not_some, refused_as}
 use Rattle.flash.specs.Extent.{used}
 use Rattle.layers.specs.Batch.{filling, up, without, left, kept}
 use Rattle.layers.specs.Buffered.{raised, buffered, Fills, Holding, Bearing, Sound}
-use Rattle.layers.specs.Laid.{means}
+use Rattle.layers.specs.WriteBuffer.{means}
 use Rattle.layers.specs.declared.buffer.State.{State}
 use Rattle.layers.specs.declared.buffer.WriteBuffer.{WriteBuffer}
 use Rattle.layers.specs.declared.buffer.State.TheVariants.{Empty, Filling}

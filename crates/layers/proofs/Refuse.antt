@@ -1,5 +1,5 @@
 -- What a write buffer refuses.
-use Rattle.std.proofs.Common.{◌≡◌, ℕ, ◌+◌, ◌%◌, ◌<◌, ◌≤◌, Bool, true, false, cond, ltb, List, [], ◌∷◌, length, take, Some, None, Ok, Err, Option, Result, IfOk, IfErr, sym, refl, ap, ◌∙◌, ⊎_elim, arith}
+use Rattle.std.proofs.Common.{◌≡◌, ℕ, ◌+◌, ◌%◌, ◌<◌, ◌≤◌, Bool, true, false, cond, not, eqb, ltb, List, [], ◌∷◌, length, take, Some, None, Ok, Err, Option, Result, IfOk, IfErr, sym, refl, ap, ◌∙◌, ⊎_elim, arith}
 use Rattle.std.proofs.lemmas.Bool.{cases_lt, lt-ltb, le-ltb, eq-eqb, ne_eqb}
 use Rattle.flash.specs.Meaning.{Meaning, Sane}
 use Rattle.flash.specs.Refused.{is_off, first, place_refusal, program_refusal}
@@ -9,13 +9,24 @@ use Rattle.flash.specs.declared.place.Place.{Place}
 use Rattle.flash.specs.declared.refusal.Refusal.{Refusal}
 use Rattle.flash.specs.declared.refusal.Refusal.TheVariants.{NoPower, Outside, NotPages, BelowMark, OtherHeld}
 use Rattle.flash.proofs.Refusals.{place_inside, not_some, program_by_place, refused_as, not_refused}
-use Rattle.layers.specs.Batch.{turn, is_other, caused}
+use Rattle.layers.specs.Batch.{turn}
 use Rattle.layers.specs.Buffered.{marks, buffered, Holding, Bearing}
-use Rattle.layers.specs.Laid.{means}
+use Rattle.layers.specs.WriteBuffer.{means}
 use Rattle.layers.specs.Sanity.{sound_of, batch_long}
 use Rattle.layers.specs.declared.buffer.State.{State}
 use Rattle.layers.specs.declared.buffer.WriteBuffer.{WriteBuffer}
-use Rattle.layers.proofs.Turns.{turn_err, other_held_is}
+use Rattle.layers.proofs.Turns.{is_other, turn_err, other_held_is}
+
+-- why a program of n bytes at o is refused whose block is there and has power: outside, not whole words, below the mark,
+-- another block has bytes held
+abbrev pub caused : ℕ → ℕ → ℕ → ℕ → Result (Option Place) Refusal → Option Refusal
+caused size mark o n t =
+    first
+    ((ltb size (o + n), Outside)
+    ∷ (cond (eqb (o % 4) 0) (not (eqb (n % 4) 0)) true, NotPages)
+    ∷ (ltb o mark, BelowMark)
+    ∷ (is_other t, OtherHeld)
+    ∷ [])
 
 -- a block that cannot be had refuses every place in it
 place_more : (m : Meaning) (b o n : ℕ) (e : Refusal) → place_refusal m b 0 0 ≡ Some e → place_refusal m b o n ≡ Some e

@@ -9,11 +9,16 @@ use Rattle.flash.specs.Meaning.{Meaning}
 use Rattle.flash.specs.Refused.{other_held}
 use Rattle.flash.proofs.Over.{by_place, elsewhere}
 use Rattle.flash.specs.Extent.{used}
-use Rattle.layers.specs.Batch.{filling, turn, is_other, begins}
+use Rattle.layers.specs.Batch.{filling, turn, begins}
 use Rattle.layers.specs.Buffered.{shows, raised, marks, buffered, Holding, Bearing}
 use Rattle.layers.specs.declared.buffer.State.{State}
 use Rattle.layers.specs.declared.buffer.State.TheVariants.{Empty, Filling}
 use Rattle.layers.proofs.Steps.{mine_held, other_holds}
+
+-- whether it asks in vain, as another block has bytes held
+abbrev pub is_other : Result (Option Place) Refusal → Bool
+is_other (Ok first) = false
+is_other (Err e) = true
 
 by_order : (P : Bool → Type 0) (a b : ℕ) → (a ≤ b → P true) → (b < a → P false) → P (leb a b)
 by_order P a b f g = ⊎_elim (λ h. rw h.0 (f h.1)) (λ h. rw h.0 (g h.1)) (leb_tells a b)

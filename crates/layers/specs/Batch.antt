@@ -4,20 +4,16 @@
 -- suits        whether a write buffer can lie on a flash with these pages and batches
 -- turn         what a program at the place o of the block b asks of a buffer in a state: each program is decided by these two.
 --              It is where the held batch begins, if that is to be passed down first, or that another block has bytes held
--- is_other     whether it asks in vain, as another block has bytes held
--- caused       why a program of n bytes at o is refused whose block is there and has power: outside, not whole words, below
---              the mark, another block has bytes held
 -- filling      the state of a buffer whose batch at s of the block b is held
 -- begun        the state of a buffer whose batch at s of the block b is used so far: nothing but 0xFF counts as empty
 -- begins       where the held batch of the block b begins, if it has one
 -- without      the state without what is held of the block b
 -- left         the state that an erase of a block with an answer leaves: another block's batch stays held, if the power lasts
 -- kept         the array of held bytes in a state: an empty buffer has nothing left of them
-use Rattle.std.specs.Prelude.{ℕ, ◌+◌, ◌-◌, ◌*◌, ◌/◌, ◌%◌, Bool, true, false, cond, not, List, [], ◌∷◌, replicate, Some, None, Ok, Err, Option, Result, ◌==◌, nat_le, nat_lt}
+use Rattle.std.specs.Prelude.{ℕ, ◌+◌, ◌-◌, ◌*◌, ◌/◌, ◌%◌, Bool, false, cond, List, replicate, Some, None, Ok, Err, Option, Result, ◌==◌, nat_le, nat_lt}
 use Rattle.flash.specs.declared.place.Place.{Place}
 use Rattle.flash.specs.declared.refusal.Refusal.{Refusal}
-use Rattle.flash.specs.declared.refusal.Refusal.TheVariants.{Outside, NotPages, BelowMark, OtherHeld}
-use Rattle.flash.specs.Refused.{first}
+use Rattle.flash.specs.declared.refusal.Refusal.TheVariants.{OtherHeld}
 use Rattle.flash.specs.Rules.{Answer}
 use Rattle.layers.specs.declared.buffer.State.{State}
 use Rattle.layers.specs.declared.buffer.State.TheVariants.{Empty, Filling}
@@ -31,19 +27,6 @@ suits page batch = cond (page == batch) (cond (batch % 4 == 0) (cond (nat_le bat
 abbrev pub turn : State → ℕ → ℕ → ℕ → Result (Option Place) Refusal
 turn Empty b o g = Ok None
 turn (Filling start) b o g = cond (b == start.block) (Ok (cond (nat_le (start.offset + g) o) (Some start) None)) (Err OtherHeld)
-
-abbrev pub is_other : Result (Option Place) Refusal → Bool
-is_other (Ok first) = false
-is_other (Err e) = true
-
-abbrev pub caused : ℕ → ℕ → ℕ → ℕ → Result (Option Place) Refusal → Option Refusal
-caused size mark o n t =
-    first
-    ((nat_lt size (o + n), Outside)
-    ∷ (cond (o % 4 == 0) (not (n % 4 == 0)) true, NotPages)
-    ∷ (nat_lt o mark, BelowMark)
-    ∷ (is_other t, OtherHeld)
-    ∷ [])
 
 abbrev pub filling : ℕ → ℕ → State
 filling b s = Filling (record { block = b; offset = s })

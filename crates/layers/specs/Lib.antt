@@ -1,4 +1,4 @@
 pub mod Batch
 pub mod Buffered
-pub mod Laid
 pub mod Sanity
+pub mod WriteBuffer

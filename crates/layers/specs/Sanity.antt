@@ -11,7 +11,7 @@ use Rattle.flash.proofs.Over.{by_place}
 use Rattle.flash.specs.Extent.{used}
 use Rattle.layers.specs.Batch.{filling}
 use Rattle.layers.specs.Buffered.{raised, buffered, Fills, Holding, Bearing, Sound}
-use Rattle.layers.specs.Laid.{means}
+use Rattle.layers.specs.WriteBuffer.{means}
 use Rattle.layers.specs.declared.buffer.WriteBuffer.{WriteBuffer}
 use Rattle.layers.specs.declared.buffer.State.{State}
 use Rattle.layers.specs.declared.buffer.State.TheVariants.{Empty, Filling}

@@ -2,12 +2,12 @@
 ghost use Rattle.std.specs.Prelude.{◌≡◌, ◌+◌, ◌^◌, ◌<◌, true, false, take, Some, None, Ok, IfOk, IfErr, MatchResult};
 ghost use Rattle.flash.specs.Refused.{program_refusal};
 ghost use Rattle.layers.specs.Batch.{suits, turn};
-ghost use Rattle.layers.specs.Laid.{means};
+ghost use Rattle.layers.specs.WriteBuffer.{means};
 ghost use Rattle.layers.specs.Sanity.{means-sane};
 
 use crate::batch::cover;
 use crate::buffer::{State, WriteBuffer};
-use crate::causes::{begins, decide, fits, kept, left, words};
+use crate::causes::{begins, decide, fits, kept, left};
 use crate::run::Run;
 use flash::bytes::reach;
 use flash::interface::Flash;
@@ -57,7 +57,10 @@ impl<F: Flash> Flash for WriteBuffer<F> {
     ghost meaning = { means };
 
     fn shape(&self) -> Shape {
-        words(self.below.shape())
+        Shape {
+            page: 4,
+            ..self.below.shape()
+        }
     }
 
     fn mark(&self, block: usize) -> Result<usize, Refusal> {

@@ -13,13 +13,6 @@ pub(crate) fn fits(below: Shape) -> bool
     below.page == below.batch && below.batch % 4 == 0 && below.batch <= 512 && below.batch > 0
 }
 
-// The shape of a buffer over a flash.
-pub(crate) fn words(below: Shape) -> Shape
-    ensures { (result.blocks ≡ below.blocks) × (result.size ≡ below.size) × (result.page ≡ 4) × (result.batch ≡ below.batch) }
-{
-    Shape { page: 4, ..below }
-}
-
 // What a program at a place asks of a buffer in a state: where the batch begins that is passed down first, if one ends at or
 // before the place; or it is refused, as another block has bytes held.
 pub(crate) fn decide(state: State, at: Place, batch: usize) -> Result<Option<Place>, Refusal>

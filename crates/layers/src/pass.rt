@@ -1,7 +1,7 @@
 // What an accepted program does, step by step.
 ghost use Rattle.std.specs.Prelude.{◌≡◌, ◌+◌, ◌%◌, ◌<◌, length, take, Some, Ok};
 ghost use Rattle.flash.specs.Rules.{Programmed};
-ghost use Rattle.layers.specs.Laid.{Accepts, IsLaid, IsNear};
+ghost use Rattle.layers.specs.WriteBuffer.{Accepts, IsLaid, IsNear};
 
 use crate::buffer::{State, WriteBuffer};
 use crate::causes::begin;
@@ -36,10 +36,10 @@ impl<F: Flash> WriteBuffer<F> {
 
     // Holds a run that ends before its batch does.
     fn keep(&mut self, run: Run<'_>)
-        requires accepted { Accepts self.old run.at (length run.bytes.now) }
+        requires accepted { Accepts self.old run }
         requires near { IsNear self.old run.at }
         requires short { run.at.offset % self.old.batch + length run.bytes.now < self.old.batch }
-        ensures { IsLaid self.old run.entry.at run.entry.bytes.now (Ok tt) self.new }
+        ensures { IsLaid self.old run.entry (Ok tt) self.new }
     {
         if run.bytes.is_empty() {
             return;
@@ -51,12 +51,12 @@ impl<F: Flash> WriteBuffer<F> {
 
     // Passes a batch down that a run ends with.
     fn complete(&mut self, run: Run<'_>) -> Result<(), Refusal>
-        requires accepted { Accepts self.old run.at (length run.bytes.now) }
+        requires accepted { Accepts self.old run }
         requires near { IsNear self.old run.at }
         requires whole { run.at.offset % self.old.batch + length run.bytes.now ≡ self.old.batch }
         ensures batch { self.new.batch ≡ self.old.batch }
         ensures state { self.new.state ≡ State.Empty }
-        ensures goes { IsLaid self.old run.entry.at run.entry.bytes.now result self.new }
+        ensures goes { IsLaid self.old run.entry result self.new }
     {
         let into = run.at.offset % self.batch;
         let mut full = self.held;
@@ -70,12 +70,12 @@ impl<F: Flash> WriteBuffer<F> {
 
     // Passes whole batches down as they are.
     fn direct(&mut self, run: Run<'_>) -> Result<(), Refusal>
-        requires accepted { Accepts self.old run.at (length run.bytes.now) }
+        requires accepted { Accepts self.old run }
         requires empty { self.old.state ≡ State.Empty }
         requires whole { (run.at.offset % self.old.batch ≡ 0) × (length run.bytes.now % self.old.batch ≡ 0) }
         ensures batch { self.new.batch ≡ self.old.batch }
         ensures state { self.new.state ≡ State.Empty }
-        ensures goes { IsLaid self.old run.entry.at run.entry.bytes.now result self.new }
+        ensures goes { IsLaid self.old run.entry result self.new }
     {
         if run.bytes.is_empty() {
             return Ok(());
@@ -85,10 +85,10 @@ impl<F: Flash> WriteBuffer<F> {
 
     // Lays a run at the start of a batch: its whole batches are passed down, and what is left is held.
     fn rest(&mut self, run: Run<'_>) -> Result<(), Refusal>
-        requires accepted { Accepts self.old run.at (length run.bytes.now) }
+        requires accepted { Accepts self.old run }
         requires empty { self.old.state ≡ State.Empty }
         requires whole { run.at.offset % self.old.batch ≡ 0 }
-        ensures { IsLaid self.old run.entry.at run.entry.bytes.now result self.new }
+        ensures { IsLaid self.old run.entry result self.new }
     {
         let n = run.bytes.len();
         let (whole, tail) = run.split_at(n - n % self.batch);
@@ -99,9 +99,9 @@ impl<F: Flash> WriteBuffer<F> {
 
     // Lays a run in the held batch, or in one of which nothing is held.
     pub(crate) fn lay(&mut self, run: Run<'_>) -> Result<(), Refusal>
-        requires accepted { Accepts self.old run.at (length run.bytes.now) }
+        requires accepted { Accepts self.old run }
         requires near { IsNear self.old run.at }
-        ensures { IsLaid self.old run.entry.at run.entry.bytes.now result self.new }
+        ensures { IsLaid self.old run.entry result self.new }
     {
         let room = self.batch - run.at.offset % self.batch;
         if run.bytes.len() < room {

@@ -17,16 +17,14 @@ impl<'a> Run<'a> {
         ensures first { (result.0.at ≡ self.entry.at) × (result.0.bytes.now ≡ take n self.entry.bytes.now) }
         ensures rest { (result.1.at ≡ record self.entry.at { offset = self.entry.at.offset + n }) × (result.1.bytes.now ≡ drop n self.entry.bytes.now) }
     {
-        let (first, rest) = self.bytes.split_at(n);
+        let Run { at, bytes } = self;
+        let (first, rest) = bytes.split_at(n);
         let behind = Place {
-            offset: self.at.offset + n,
-            ..self.at
+            offset: at.offset + n,
+            ..at
         };
         (
-            Run {
-                at: self.at,
-                bytes: first,
-            },
+            Run { at, bytes: first },
             Run {
                 at: behind,
                 bytes: rest,
