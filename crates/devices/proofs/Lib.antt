@@ -10,3 +10,13 @@ pub mod NorMarks
 pub mod NorMeaning
 pub mod NorMeets
 pub mod NorLooks
+pub mod Flags
+pub mod ByPages
+pub mod Shown
+pub mod Readable
+pub mod NandRefusals
+pub mod NandLooks
+pub mod NandCalls
+pub mod NandMeaning
+pub mod NandMeets
+pub mod NandAnswers
