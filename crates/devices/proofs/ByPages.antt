@@ -3,18 +3,10 @@ use Rattle.std.proofs.Common.{◌≡◌, ℕ, ◌+◌, ◌*◌, ◌<◌, ◌≤�
 use Rattle.std.proofs.lemmas.List.{take_at, drop_at, drop_more, take-append-le, drop-append-le, nil_from_length}
 use Rattle.flash.specs.Cells.{over}
 use Rattle.devices.specs.Pages.{by_pages}
+use Rattle.devices.specs.SanePages.{by_pages_long}
 
 -- g makes q elements of each page of p bytes
 module _ {Y : Type 0} (g : Bool → List ℕ → List Y) (p q : ℕ) (long : (f : Bool) (ys : List ℕ) → length ys ≡ p → length (g f ys) ≡ q) where
-  pub by_pages_long : (fs : List Bool) (xs : List ℕ) → length xs ≡ length fs * p → length (by_pages g p fs xs) ≡ length fs * q
-  by_pages_long [] xs h = sym (zero-mul q)
-  by_pages_long (f ∷ fs) xs h =
-      let k : length xs ≡ length fs * p + p = h ∙ suc-mul (length fs) p in
-      let l : length (take p xs) ≡ p = simp length-take (omega arith) in
-      let r : length (drop p xs) ≡ length fs * p = simp length-drop (omega arith) in
-      length-append (g f (take p xs)) (by_pages g p fs (drop p xs))
-      ∙ (rw (long f (take p xs) l, by_pages_long fs (drop p xs) r) (omega (arith, suc-mul (length fs) q)))
-
   pub by_pages_append : (fs gs : List Bool) (xs ys : List ℕ) → length xs ≡ length fs * p
       → by_pages g p (fs ++ gs) (xs ++ ys) ≡ by_pages g p fs xs ++ by_pages g p gs ys
   by_pages_append [] gs xs ys h =
@@ -50,7 +42,7 @@ module _ {Y : Type 0} (g : Bool → List ℕ → List Y) (p q : ℕ) (long : (f 
     made_long : length (by_pages g p (take k fs) (take (k * p) xs)) ≡ k * q
     made_long =
         let n : length (take k fs) ≡ k = simp length-take (omega arith) in
-        by_pages_long (take k fs) (take (k * p) xs) front_long ∙ ap (λ m. m * q) n
+        by_pages_long g p q long (take k fs) (take (k * p) xs) front_long ∙ ap (λ m. m * q) n
 
     pub by_pages_take : take (k * q) (by_pages g p fs xs) ≡ by_pages g p (take k fs) (take (k * p) xs)
     by_pages_take = ap (take (k * q)) split ∙ take_at _ _ (k * q) made_long
@@ -73,7 +65,7 @@ module _ {Y : Type 0} (g : Bool → List ℕ → List Y) (p q : ℕ) (long : (f 
     by_pages_over =
         let n = k + length gs in
         let np : k * p + length ys ≡ n * p = omega (arith, add-mul k (length gs) p) in
-        let nq : k * q + length (by_pages g p gs ys) ≡ n * q = omega (arith, add-mul k (length gs) q, by_pages_long gs ys full') in
+        let nq : k * q + length (by_pages g p gs ys) ≡ n * q = omega (arith, add-mul k (length gs) q, by_pages_long g p q long gs ys full') in
         let hk : k ≤ length fs = omega arith in
         ap (λ m. by_pages g p (over fs k gs) (take (k * p) xs ++ (ys ++ drop m xs))) np
         ∙ (by_pages_append (take k fs) (gs ++ drop n fs) (take (k * p) xs) (ys ++ drop (n * p) xs) (front_long fs xs full k hk)

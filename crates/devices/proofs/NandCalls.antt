@@ -1,100 +1,109 @@
--- What the code of a NAND chip does to its memory and its flags is what is meant.
-use Rattle.std.proofs.Common.{◌≡◌, ℕ, ◌+◌, ◌-◌, ◌*◌, ◌/◌, ◌≤◌, Bool, false, List, ◌++◌, length, take, drop, replicate, Some, None, Ok, Err, sym, ap, ◌∙◌, subst, mul-le-mul_right, suc-mul, div-mul-le_self, add-one, arith, length-drop, length-take}
-use lib.ListN.{length-map, length-replicate}
-use borrow.Rule.Slice.PartMut.{put_mid}
+-- What the code of a NAND chip finds and does is what is meant.
+use Rattle.std.proofs.Common.{◌≡◌, ℕ, ◌+◌, ◌*◌, ◌/◌, ◌<◌, ◌≤◌, Bool, true, false, not, List, ◌++◌, length, take, drop, Some, None, Ok, Err, sym, refl, ap, ◌∙◌, subst, add-mul, div-mul-le_self, mul-div_cancel, arith}
+use Rattle.std.proofs.lemmas.Nat.{le-div}
+use Rattle.std.proofs.lemmas.Bool.{true≢false}
 use Rattle.flash.specs.declared.refusal.Refusal.{Refusal}
-use Rattle.flash.specs.declared.refusal.Refusal.TheVariants.{NoPower}
-use Rattle.flash.specs.Cells.{over}
-use Rattle.flash.specs.Refused.{program_refusal, erase_refusal}
-use Rattle.devices.specs.declared.supply.Cut.{Cut}
+use Rattle.flash.specs.Cells.{cells}
+use Rattle.flash.specs.Refused.{place_refusal, place_causes, program_refusal, read_refusal, readable, part}
+use Rattle.flash.specs.Rules as rules
+use Rattle.flash.specs.Rules.{answered, Fetched}
+use Rattle.flash.proofs.Refusals.{refused_as, not_refused, none_applies, inside, of_read}
 use Rattle.devices.specs.declared.supply.Supply.{Supply}
-use Rattle.devices.specs.declared.supply.Supply.TheVariants.{Off}
-use Rattle.devices.specs.Steps.{spent}
-use Rattle.devices.specs.Memory.{part_of, ored, cut_run}
-use Rattle.devices.proofs.Cuts.{cut_run_is, cut_run_long}
-use Rattle.devices.proofs.Rows.{put_over}
-use Rattle.devices.proofs.Supplies.{cut_before}
+use Rattle.devices.specs.Steps.{Done, spent, taken, left_by}
+use Rattle.devices.specs.Memory.{part_of, laid, wiped, Within}
+use Rattle.devices.specs.Bank.{blocks_in, placed, chip, outcome}
 use Rattle.devices.specs.Sizes.{size_of}
-use Rattle.devices.specs.Pages.{odd, cut_pages, lost_by}
-use Rattle.devices.specs.Nand.{nand, outcome, nand_program, nand_erase}
+use Rattle.devices.specs.Pages.{shown_by, mark_of, flags_laid, flags_wiped}
+use Rattle.devices.specs.Nand.{nand, blocks_of, nand_program, nand_erase}
+use Rattle.devices.specs.Sane.{part_full}
+use Rattle.devices.specs.SanePages.{bytes_there, flags_there}
+use Rattle.devices.proofs.Meets.{answer_of, after_is, unless_refused, unless_not}
+use Rattle.devices.proofs.Readable.{part_read}
+use Rattle.devices.proofs.Rows.{in_block}
 
--- the page that fails is one of the run's
-pub cut_fits : (p : ℕ) (s : Supply) (c : Cut) (n : ℕ) → Err c ≡ spent s (n / p) → c.after * p + p ≤ n
-cut_fits p s c n h = omega (arith, mul-le-mul_right p (cut_before s (n / p) c h), suc-mul c.after p, div-mul-le_self n p)
+-- the pages of a run within a block are pages of the chip
+pub pages_there : (p b o n : ℕ) → 0 < p → b < 16 → o + n ≤ size_of p → b * 8 + o / p + n / p ≤ 128
+pages_there p b o n pos few h =
+    let sum : (o / p + n / p) * p ≤ 8 * p = omega (arith, add-mul (o / p) (n / p) p, div-mul-le_self o p, div-mul-le_self n p) in
+    let k : o / p + n / p ≤ 8 = subst (λ m. o / p + n / p ≤ m) (mul-div_cancel 8 pos) (le-div (o / p + n / p) (8 * p) p pos sum) in
+    omega arith
 
--- ─── program ───
+pub blocks_are : (p : ℕ) (mem : List ℕ) (fs : List Bool) (size : ℕ) → size ≡ size_of p → length fs ≡ 128 → blocks_in size (length mem) ≡ blocks_of p mem fs
+blocks_are p mem fs size is all = rw (is, all)
 
-module _ (p : ℕ) (mem : List ℕ) (fs : List Bool) (s : Supply) (b o : ℕ) (run : List ℕ) where
-  pub lay_refused : (e : Refusal) → program_refusal (nand p mem fs s) b o (length run) ≡ Some e → outcome (Err e) mem fs s ≡ nand_program p mem fs s b o run
-  unfolding nand_program
-  lay_refused e h = rw h
+-- the block b, as the code has it
+module _ (p : ℕ) (mem : List ℕ) (fs : List Bool) (b q : ℕ) (gs : List Bool) (xs : List ℕ) (page : q ≡ p) (flags : gs ≡ part_of 8 fs b) (bytes : xs ≡ part_of (size_of p) mem b) where
+  pub mark_here : (m : ℕ) → m ≡ mark_of q gs xs → m ≡ mark_of p (part_of 8 fs b) (part_of (size_of p) mem b)
+  mark_here m h = h ∙ (λ t. mark_of (page t) (flags t) (bytes t))
 
-  -- q is a page, as the code has it
-  module _ (from q : ℕ) (none : program_refusal (nand p mem fs s) b o (length run) ≡ None) (is : from ≡ b * size_of p + o) (page : q ≡ p) where
-    pub lay_done : (s' : Supply) (ys : List ℕ) (gs : List Bool) → Ok s' ≡ spent s (length run / q) → ys ≡ run
-        → gs ≡ over fs (b * 8 + o / q) (replicate (length run / q) false)
-        → outcome (Ok tt) (put_mid from (from + length run - from) mem ys) gs s' ≡ nand_program p mem fs s b o run
-    unfolding nand_program
-    lay_done s' ys gs h e g =
-        let h' : Ok s' ≡ spent s (length run / p) = subst (λ m. Ok s' ≡ spent s (length run / m)) page h in
-        let g' : gs ≡ over fs (b * 8 + o / p) (replicate (length run / p) false) = subst (λ m. gs ≡ over fs (b * 8 + o / m) (replicate (length run / m) false)) page g in
-        let k : length ys ≡ from + length run - from = ap length e ∙ omega arith in
-        let m : put_mid from (from + length run - from) mem ys ≡ over mem (b * size_of p + o) run = put_over from (from + length run - from) mem ys k ∙ rw (e, is) in
-        rw (none, ← h') (λ t. outcome (Ok tt) (m t) (g' t) s')
+  pub lost_here : (o n : ℕ) (r : Bool) → r ≡ not (readable (part (shown_by q gs xs) o n))
+      → r ≡ not (readable (part (shown_by p (part_of 8 fs b) (part_of (size_of p) mem b)) o n))
+  lost_here o n r h = h ∙ (λ t. not (readable (part (shown_by (page t) (flags t) (bytes t)) o n)))
 
-    pub lay_cut : (c : Cut) (ys bs : List ℕ) (gs : List Bool) (end : ℕ) → Err c ≡ spent s (length run / q) → end ≡ (c.after + 1) * q
-        → bs ≡ take end run → ys ≡ take (length bs - q) bs ++ ored c.fault (drop (length bs - q) bs)
-        → gs ≡ over fs (b * 8 + o / q) (cut_pages c)
-        → outcome (Err NoPower) (put_mid from (from + end - from) mem ys) gs Off ≡ nand_program p mem fs s b o run
-    unfolding nand_program
-    lay_cut c ys bs gs end h ee eb ey g =
-        let h' : Err c ≡ spent s (length run / p) = subst (λ m. Err c ≡ spent s (length run / m)) page h in
-        let g' : gs ≡ over fs (b * 8 + o / p) (cut_pages c) = subst (λ m. gs ≡ over fs (b * 8 + o / m) (cut_pages c)) page g in
-        let ey' : ys ≡ take (length bs - p) bs ++ ored c.fault (drop (length bs - p) bs) = subst (λ m. ys ≡ take (length bs - m) bs ++ ored c.fault (drop (length bs - m) bs)) page ey in
-        let e' : end ≡ c.after * p + p = subst (λ m. end ≡ (c.after + 1) * m) page ee ∙ (ap (λ m. m * p) (add-one c.after) ∙ suc-mul c.after p) in
-        let le = cut_fits p s c (length run) h' in
-        let is_cut = cut_run_is p c run le ys bs end e' eb ey' in
-        let long : length ys ≡ from + end - from = ap length is_cut ∙ (cut_run_long p c run le ∙ omega arith) in
-        let m : put_mid from (from + end - from) mem ys ≡ over mem (b * size_of p + o) (cut_run p c run) = put_over from (from + end - from) mem ys long ∙ rw (is_cut, is) in
-        rw (none, ← h') (λ t. outcome (Err NoPower) (m t) (g' t) Off)
+module _ (p : ℕ) (mem : List ℕ) (fs : List Bool) (s : Supply) where
+  -- size is that of a block, as the bank has it
+  module _ (size : ℕ) (is : size ≡ size_of p) (all : length fs ≡ 128) where
+    pub placed_is : (b o n : ℕ) → place_refusal (nand p mem fs s) b o n ≡ placed size (length mem) s b o n
+    unfolding nand chip place_refusal
+    placed_is b o n = rw (is, all)
 
--- ─── erase ───
+    -- ─── erase ───
 
-module _ (p : ℕ) (mem : List ℕ) (fs : List Bool) (s : Supply) (b : ℕ) where
-  pub clear_refused : (e : Refusal) → erase_refusal (nand p mem fs s) b ≡ Some e → outcome (Err e) mem fs s ≡ nand_erase p mem fs s b
-  unfolding nand_erase
-  clear_refused e h = rw h
-
-  -- q is the size of a block, as the code has it
-  module _ (from q : ℕ) (none : erase_refusal (nand p mem fs s) b ≡ None) (is : from ≡ b * size_of p + 0) (size : q ≡ size_of p) (fits : b * size_of p + size_of p ≤ length mem) where
-    size_is : from + q - from ≡ size_of p
-    size_is = omega arith
-
-    from_is : from ≡ b * size_of p
-    from_is = omega arith
-
-    part_is : take (from + q - from) (drop from mem) ≡ part_of (size_of p) mem b
-    part_is = ap (λ n. take n (drop from mem)) size_is ∙ ap (λ n. take (size_of p) (drop n mem)) from_is
-
-    part_long : length (part_of (size_of p) mem b) ≡ size_of p
-    part_long = simp (length-take, length-drop) (omega arith)
-
-    pub clear_done : (s' : Supply) (ys : List ℕ) (gs : List Bool) → Ok s' ≡ spent s 1 → ys ≡ replicate (length (take (from + q - from) (drop from mem))) 255
-        → gs ≡ over fs (b * 8) (replicate 8 false)
-        → outcome (Ok tt) (put_mid from (from + q - from) mem ys) gs s' ≡ nand_erase p mem fs s b
+    pub erase_refused : (b k : ℕ) (e : Refusal) → Err e ≡ answered (placed size (length mem) s b 0 0) k → outcome (Err e) (mem, fs) s ≡ nand_erase p mem fs s b
     unfolding nand_erase
-    clear_done s' ys gs h e g =
-        let blank : ys ≡ replicate (size_of p) 255 = e ∙ ap (λ n. replicate n 255) (ap length part_is ∙ part_long) in
-        let long : length ys ≡ from + q - from = ap length blank ∙ (length-replicate {A = ℕ} (size_of p) 255 ∙ sym size_is) in
-        let m : put_mid from (from + q - from) mem ys ≡ over mem (b * size_of p) (replicate (size_of p) 255) = put_over from (from + q - from) mem ys long ∙ rw (blank, from_is) in
-        rw (none, ← h) (λ t. outcome (Ok tt) (m t) (g t) s')
+    erase_refused b k e h = unless_refused (place_refusal (nand p mem fs s) b 0 0) k (mem, fs) s _ e (rw (placed_is b 0 0) h)
 
-    pub clear_cut : (c : Cut) (ys : List ℕ) (gs : List Bool) → Err c ≡ spent s 1 → ys ≡ ored c.fault (take (from + q - from) (drop from mem))
-        → gs ≡ lost_by (odd c.fault) fs b
-        → outcome (Err NoPower) (put_mid from (from + q - from) mem ys) gs Off ≡ nand_erase p mem fs s b
+    pub erased_is : (b k from : ℕ) → Ok from ≡ answered (placed size (length mem) s b 0 0) k
+        → (d r : Done) (mem' : List ℕ) (fs' : List Bool) (s' : Supply) → d ≡ r → d ≡ taken (spent s 1) → s' ≡ left_by (spent s 1)
+        → mem' ≡ wiped size mem b d → fs' ≡ flags_wiped fs b d → outcome (answer_of r) (mem', fs') s' ≡ nand_erase p mem fs s b
     unfolding nand_erase
-    clear_cut c ys gs h e g =
-        let spoilt : ys ≡ ored c.fault (part_of (size_of p) mem b) = e ∙ ap (ored c.fault) part_is in
-        let long : length ys ≡ from + q - from = ap length spoilt ∙ (length-map _ _ ∙ (part_long ∙ sym size_is)) in
-        let m : put_mid from (from + q - from) mem ys ≡ over mem (b * size_of p) (ored c.fault (part_of (size_of p) mem b)) = put_over from (from + q - from) mem ys long ∙ rw (spoilt, from_is) in
-        rw (none, ← h) (λ t. outcome (Err NoPower) (m t) (g t) Off)
+    erased_is b k from h d r mem' fs' s' was t l m g =
+        unless_not (place_refusal (nand p mem fs s) b 0 0) k (mem, fs) s _ from _ (rw (placed_is b 0 0) h)
+        (ap (λ q. outcome (answer_of q) (mem', fs') s') (sym was)
+        ∙ after_is (λ q. (wiped (size_of p) mem b q, flags_wiped fs b q)) (spent s 1) s' (mem', fs') d l t (λ i. ((m ∙ ap (λ n. wiped n mem b d) is) i, g i)))
+
+  -- ─── program ───
+
+  module _ (b o : ℕ) (run : List ℕ) (k : ℕ) where
+    pub program_refused : (e : Refusal) → Err e ≡ answered (program_refusal (nand p mem fs s) b o (length run)) k → outcome (Err e) (mem, fs) s ≡ nand_program p mem fs s b o run
+    unfolding nand_program
+    program_refused e h = unless_refused _ k (mem, fs) s _ e h
+
+    pub programmed_is : (from : ℕ) → Ok from ≡ answered (program_refusal (nand p mem fs s) b o (length run)) k → from ≡ b * size_of p + o
+        → (d r : Done) (mem' : List ℕ) (fs' : List Bool) (s' : Supply) → d ≡ r → d ≡ taken (spent s (length run / p)) → s' ≡ left_by (spent s (length run / p))
+        → mem' ≡ laid p mem from run d → fs' ≡ flags_laid fs (b * 8 + o / p) (length run / p) d → outcome (answer_of r) (mem', fs') s' ≡ nand_program p mem fs s b o run
+    unfolding nand_program
+    programmed_is from h is d r mem' fs' s' was t l m g =
+        unless_not _ k (mem, fs) s _ from _ h
+        (ap (λ q. outcome (answer_of q) (mem', fs') s') (sym was)
+        ∙ after_is (λ q. (laid p mem (b * size_of p + o) run q, flags_laid fs (b * 8 + o / p) (length run / p) q)) (spent s (length run / p)) s' (mem', fs') d l t
+        (λ i. ((m ∙ ap (λ a. laid p mem a run d) is) i, g i)))
+
+  -- ─── read ───
+
+  module _ (b o : ℕ) (old : List ℕ) (k : ℕ) where
+    pub fetch_refused : (e : Refusal) → Err e ≡ answered (read_refusal (nand p mem fs s) b o (length old)) k → Fetched (nand p mem fs s) b o old (Err e) old
+    fetch_refused e h = rules.Fetched.refused e (refused_as _ k e h) refl refl
+
+    -- what is not refused is there, and can be read
+    causes : read_refusal (nand p mem fs s) b o (length old) ≡ None → (outside_not : b < (nand p mem fs s).blocks)
+        × (readable (part ((nand p mem fs s).shown b) o (length old)) ≡ true)
+    unfolding read_refusal
+    causes none =
+        let t = none_applies (place_causes (nand p mem fs s) b o (length old) ++ of_read (nand p mem fs s) b o (length old)) none in
+        ((inside (nand p mem fs s) b o (length old) (t 1)).0, go (readable (part ((nand p mem fs s).shown b) o (length old))) (t 2))
+      where
+        go : (x : Bool) → not x ≡ false → x ≡ true
+        go true h = refl
+        go false h = absurd (true≢false h)
+
+    pub fetch_done : (from : ℕ) (new : List ℕ) → Ok from ≡ answered (read_refusal (nand p mem fs s) b o (length old)) k → Within (size_of p) (length mem) b o (length old) from
+        → new ≡ take (length old) (drop from mem) → Fetched (nand p mem fs s) b o old (Ok tt) new
+    unfolding nand chip
+    fetch_done from new h w e =
+        let none = not_refused _ k from h in
+        let c = causes none in
+        let eight : length (part_of 8 fs b) ≡ 8 = part_full 8 fs b (flags_there p mem fs b c.0) in
+        let full : length (part_of (size_of p) mem b) ≡ length (part_of 8 fs b) * p = part_full (size_of p) mem b w.2 ∙ ap (λ n. n * p) (sym eight) in
+        let x : new ≡ take (length old) (drop o (part_of (size_of p) mem b)) = e ∙ (ap (λ n. take (length old) (drop n mem)) w.0 ∙ in_block (size_of p) mem b o (length old) w.1) in
+        rules.Fetched.done none refl (ap cells x ∙ part_read p (part_of 8 fs b) (part_of (size_of p) mem b) full o (length old) c.1)

@@ -4,10 +4,12 @@ use native.Mathlib.Nat.{lt-div-mul-add}
 use Rattle.std.proofs.lemmas.List.{take-append-le, drop-append-le, drop-drop, take_all, take-append-drop}
 use Rattle.std.proofs.lemmas.Nat.{le-div, div_below}
 use Rattle.std.proofs.lemmas.Bool.{true≢false}
+use Rattle.std.specs.List.{list_any}
 use Rattle.flash.specs.Cells.{Cell, byte, lost, cells}
 use Rattle.flash.specs.Refused.{readable, part}
-use Rattle.devices.specs.Pages.{page_cells, shown_by, any}
-use Rattle.devices.proofs.Shown.{page_long, shown_drop}
+use Rattle.devices.specs.Pages.{page_cells, shown_by}
+use Rattle.devices.specs.SanePages.{page_long}
+use Rattle.devices.proofs.Shown.{shown_drop}
 
 -- ─── cells over bytes ───
 
@@ -63,6 +65,11 @@ module _ (p : ℕ) where
   part_read fs xs full o n h = covers_read (covers_take n (covers_drop o (covers_block fs xs full))) h
 
 -- ─── parts that can be read ───
+
+-- whether a flag is set
+abbrev pub any : List Bool → Bool
+any [] = false
+any (x ∷ xs) = cond x true (any xs)
 
 readable_append : (cs ds : List Cell) → readable (cs ++ ds) ≡ cond (readable cs) (readable ds) false
 readable_append [] ds = refl
@@ -197,3 +204,23 @@ module _ (p : ℕ) (pos : 0 < p) (fs : List Bool) (xs : List ℕ) (full : length
     where
       sum_is : (a b : ℕ) → a ≤ b → b ≡ a + (b - a)
       sum_is a b h = omega arith
+
+any_is : (test : Bool → Bool) → test true ≡ true → test false ≡ false → (fs : List Bool) → list_any test fs ≡ any fs
+any_is test t f [] = refl
+any_is test t f (true ∷ fs) = rw t
+any_is test t f (false ∷ fs) = rw (f, any_is test t f fs)
+
+-- whether a flag of those pages is set, as the code asks
+pub lost_is : (p : ℕ) → 0 < p → (fs : List Bool) (xs : List ℕ) → length xs ≡ length fs * p → (o n : ℕ) → (n ≡ 0 → ⊥) → o + n ≤ length fs * p
+    → (test : Bool → Bool) → test true ≡ true → test false ≡ false → (r : Bool) → r ≡ list_any test (take ((o + n - 1) / p + 1 - o / p) (drop (o / p) fs))
+    → r ≡ not (readable (part (shown_by p fs xs) o n))
+lost_is p pos fs xs full o n some fits test t f r h =
+    let n' : 0 < n = omega (arith, some) in
+    let order : o / p ≤ (o + n - 1) / p = le-div (o / p) (o + n - 1) p pos (omega (arith, div-mul-le_self o p)) in
+    let many : (o + n - 1) / p + 1 - o / p ≡ (o + n - 1) / p - o / p + 1 = omega arith in
+    h ∙ (any_is test t f _ ∙ (ap (λ k. any (take k (drop (o / p) fs))) many
+    ∙ (sym (not_not (any (take ((o + n - 1) / p - o / p + 1) (drop (o / p) fs)))) ∙ ap not (sym (part_lost p pos fs xs full o n n' fits)))))
+  where
+    not_not : (x : Bool) → not (not x) ≡ x
+    not_not true = refl
+    not_not false = refl

@@ -6,70 +6,39 @@ use Rattle.std.proofs.lemmas.List.{get_or-replicate, get_or_append_left, get_or-
 use Rattle.std.proofs.lemmas.Bool.{cases_lt, ltb-false, true≢false}
 use Rattle.flash.specs.Cells.{Cell, byte, lost, cells, over}
 use Rattle.flash.specs.Rules as rules
-use Rattle.devices.specs.Memory.{bump, extent, used}
-use Rattle.devices.proofs.Bytes.{extent_more}
-use Rattle.devices.proofs.Extents.{bump_none, extent_empty, unused}
-use Rattle.devices.proofs.Rows.{getD_cells}
-use Rattle.devices.specs.Pages.{by_pages, page_cells, shown_by, page_used, pages_used, mark_of}
-use Rattle.devices.proofs.ByPages.{by_pages_long, by_pages_append, by_pages_drop, by_pages_at, by_pages_over}
+use Rattle.flash.specs.Extent.{bump, extent, used}
+use Rattle.flash.proofs.Extents.{bump_none, extent_empty, unused}
+use Rattle.devices.specs.Pages.{by_pages, page_cells, shown_by, page_used, pages_used}
+use Rattle.devices.specs.SanePages.{page_long, cells_long, one_long, shown_long, used_long}
+use Rattle.devices.proofs.ByPages.{by_pages_append, by_pages_drop, by_pages_at, by_pages_over}
 
 -- ─── one page ───
-
-pub page_long : (f : Bool) (ys : List ℕ) → length (page_cells f ys) ≡ length ys
-page_long true ys = length-replicate (length ys) lost
-page_long false ys = length-map ys byte
-
-page_at : (f : Bool) (ys : List ℕ) (i : ℕ) → i < length ys → get_or (page_cells f ys) i lost ≡ cond f lost (byte (get_or ys i 0))
-page_at true ys i h = get_or-replicate (length ys) i lost lost h
-page_at false ys i h = getD_cells ys i h
 
 pub page_spoilt : (f : Bool) (ys : List ℕ) → rules.Spoilt (length ys) (page_cells f ys)
 page_spoilt true ys = rules.Spoilt.unreadable refl
 page_spoilt false ys = rules.Spoilt.bytes ys refl refl
 
-empty_page : (f : Bool) (ys : List ℕ) → not (page_used f ys) ≡ true → (f ≡ false) × (used ys ≤ 0)
-empty_page true ys h = absurd (true≢false (sym h))
-empty_page false ys h = (refl, go (ltb 0 (used ys)) refl h)
-  where
-    go : (t : Bool) → ltb 0 (used ys) ≡ t → not t ≡ true → used ys ≤ 0
-    go true e h = absurd (true≢false (sym h))
-    go false e h = ltb-false 0 (used ys) e
-
 -- ─── a block ───
 
 module _ (p : ℕ) where
-  cells_long : (f : Bool) (ys : List ℕ) → length ys ≡ p → length (page_cells f ys) ≡ p
-  cells_long f ys h = page_long f ys ∙ h
-
-  one_long : (f : Bool) (ys : List ℕ) → length ys ≡ p → length (page_used f ys ∷ []) ≡ 1
-  one_long f ys h = refl
-
-  pub shown_long : (fs : List Bool) (xs : List ℕ) → length xs ≡ length fs * p → length (shown_by p fs xs) ≡ length fs * p
-  unfolding shown_by
-  shown_long fs xs h = by_pages_long page_cells p p cells_long fs xs h
-
-  pub used_long : (fs : List Bool) (xs : List ℕ) → length xs ≡ length fs * p → length (pages_used p fs xs) ≡ length fs
-  unfolding pages_used
-  used_long fs xs h = by_pages_long (λ f ys. page_used f ys ∷ []) p 1 one_long fs xs h ∙ mul-one (length fs)
-
   pub shown_append : (fs gs : List Bool) (xs ys : List ℕ) → length xs ≡ length fs * p → shown_by p (fs ++ gs) (xs ++ ys) ≡ shown_by p fs xs ++ shown_by p gs ys
   unfolding shown_by
-  shown_append fs gs xs ys h = by_pages_append page_cells p p cells_long fs gs xs ys h
+  shown_append fs gs xs ys h = by_pages_append page_cells p p (cells_long p) fs gs xs ys h
 
   pub shown_drop : (fs : List Bool) (xs : List ℕ) → length xs ≡ length fs * p → (k : ℕ) → k ≤ length fs
       → drop (k * p) (shown_by p fs xs) ≡ shown_by p (drop k fs) (drop (k * p) xs)
   unfolding shown_by
-  shown_drop fs xs full k h = by_pages_drop page_cells p p cells_long fs xs full k h
+  shown_drop fs xs full k h = by_pages_drop page_cells p p (cells_long p) fs xs full k h
 
   module _ (fs gs : List Bool) (xs ys : List ℕ) (k : ℕ) (full : length xs ≡ length fs * p) (full' : length ys ≡ length gs * p) (h : k + length gs ≤ length fs) where
     pub shown_over : shown_by p (over fs k gs) (over xs (k * p) ys) ≡ over (shown_by p fs xs) (k * p) (shown_by p gs ys)
     unfolding shown_by
-    shown_over = by_pages_over page_cells p p cells_long fs gs xs ys k full full' h
+    shown_over = by_pages_over page_cells p p (cells_long p) fs gs xs ys k full full' h
 
     pub used_over : pages_used p (over fs k gs) (over xs (k * p) ys) ≡ over (pages_used p fs xs) k (pages_used p gs ys)
     unfolding pages_used
     used_over =
-        by_pages_over (λ f zs. page_used f zs ∷ []) p 1 one_long fs gs xs ys k full full' h
+        by_pages_over (λ f zs. page_used f zs ∷ []) p 1 (one_long p) fs gs xs ys k full full' h
         ∙ ap (λ n. over (by_pages (λ f zs. page_used f zs ∷ []) p fs xs) n (by_pages (λ f zs. page_used f zs ∷ []) p gs ys)) (mul-one k)
 
   -- pages that can be read
@@ -97,36 +66,13 @@ module _ (p : ℕ) where
       shown_append (replicate a false) (t ∷ []) ws sp (h ∙ ap (λ n. n * p) (sym (length-replicate a false)))
       ∙ rw (shown_clear a ws h, shown_one t sp l)
 
-  -- the cell i
-  pub shown_at : 0 < p → (fs : List Bool) (xs : List ℕ) → length xs ≡ length fs * p → (i : ℕ) → i < length fs * p
-      → get_or (shown_by p fs xs) i lost ≡ cond (get_or fs (i / p) true) lost (byte (get_or xs i 0))
-  unfolding shown_by
-  shown_at pos [] xs h i l = absurd (omega (arith, zero-mul p))
-  shown_at pos (f ∷ fs) xs h i l =
-      let k : length xs ≡ length fs * p + p = h ∙ suc-mul (length fs) p in
-      let t : length (take p xs) ≡ p = simp length-take (omega arith) in
-      let r : length (drop p xs) ≡ length fs * p = simp length-drop (omega arith) in
-      let A = page_cells f (take p xs) in
-      let rest = shown_by p fs (drop p xs) in
-      let la : length A ≡ p = cells_long f (take p xs) t in
-      ⊎_elim
-      (λ (lt : i < p).
-      get_or_append_left A rest lost i (omega arith)
-      ∙ (page_at f (take p xs) i (omega arith) ∙ rw (div-eq_of_lt lt, get_or-take p xs i 0 lt)))
-      (λ (ge : p ≤ i).
-      let d : i / p ≡ suc ((i - p) / p) = div-eq-sub-div pos ge ∙ add-one ((i - p) / p) in
-      let back : get_or (drop p xs) (i - p) 0 ≡ get_or xs i 0 = get_or-drop p xs (i - p) 0 ∙ ap (λ n. get_or xs n 0) (omega arith) in
-      get_or-append_right A rest p i lost la ge
-      ∙ (shown_at pos fs (drop p xs) r (i - p) (omega (arith, suc-mul (length fs) p)) ∙ rw (d, back)))
-      (cases_lt i p)
-
   -- the page i
   pub used_at : (fs : List Bool) (xs : List ℕ) → length xs ≡ length fs * p → (i : ℕ) → i < length fs
       → get_or (pages_used p fs xs) i false ≡ page_used (get_or fs i false) (take p (drop (i * p) xs))
   unfolding pages_used
   used_at fs xs full i h =
       let us = by_pages (λ f ys. page_used f ys ∷ []) p fs xs in
-      let e : take 1 (drop (i * 1) us) ≡ page_used (get_or fs i false) (take p (drop (i * p) xs)) ∷ [] = by_pages_at (λ f ys. page_used f ys ∷ []) p 1 one_long fs xs full i h in
+      let e : take 1 (drop (i * 1) us) ≡ page_used (get_or fs i false) (take p (drop (i * p) xs)) ∷ [] = by_pages_at (λ f ys. page_used f ys ∷ []) p 1 (one_long p) fs xs full i h in
       sym (ap (λ n. get_or us n false) (add-zero i))
       ∙ (sym (get_or-drop i us 0 false) ∙ (sym (get_or-take 1 (drop i us) 0 false (omega arith))
       ∙ (ap (λ n. get_or (take 1 (drop n us)) 0 false) (sym (mul-one i)) ∙ ap (λ (l : List Bool). get_or l 0 false) e)))
@@ -134,7 +80,7 @@ module _ (p : ℕ) where
   shown_page : (fs : List Bool) (xs : List ℕ) → length xs ≡ length fs * p → (i : ℕ) → i < length fs
       → take p (drop (i * p) (shown_by p fs xs)) ≡ page_cells (get_or fs i false) (take p (drop (i * p) xs))
   unfolding shown_by
-  shown_page fs xs full i h = by_pages_at page_cells p p cells_long fs xs full i h
+  shown_page fs xs full i h = by_pages_at page_cells p p (cells_long p) fs xs full i h
 
   -- each batch of a block is spoilt, whatever it was, if it was made anew page by page
   pub pages_spoilt : (gs : List Bool) (ys : List ℕ) (old : List Cell) → length ys ≡ length gs * p → length old ≡ length gs * p
@@ -150,45 +96,12 @@ module _ (p : ℕ) where
       let m = mul-le-mul_right p ge in
       let none : (xs : List Cell) → length xs ≡ length gs * p → take p (drop (i * p) xs) ≡ [] = λ xs l.
       ap (take p) (drop_all (i * p) xs (omega arith)) ∙ take_all p [] (omega arith) in
-      rw (none old long, none (shown_by p gs ys) (shown_long gs ys full)) (rules.Spoilt.bytes [] refl refl))
+      rw (none old long, none (shown_by p gs ys) (shown_long p gs ys full)) (rules.Spoilt.bytes [] refl refl))
       (cases_lt i (length gs))
 
 -- ─── how far a block is used ───
 
-none_used : (n p i : ℕ) → n * p ≤ i → i < p → n ≡ 0
-none_used zero p i h l = refl
-none_used (suc n) p i h l = absurd (omega (arith, suc-mul n p))
-
-used_behind : (e : Bool) (n p i : ℕ) → bump e n * p ≤ i → p ≤ i → n * p ≤ i - p
-used_behind e zero p i h l = omega (arith, zero-mul p)
-used_behind e (suc n) p i h l = omega (arith, suc-mul (suc n) p)
-
 module _ (p : ℕ) where
-  -- behind the last page that is used all is 0xFF
-  pub blank_behind : (fs : List Bool) (xs : List ℕ) → length xs ≡ length fs * p → (i : ℕ) → mark_of p fs xs ≤ i → i < length fs * p
-      → get_or (shown_by p fs xs) i lost ≡ byte 255
-  unfolding shown_by pages_used mark_of
-  blank_behind [] xs h i low l = absurd (omega (arith, zero-mul p))
-  blank_behind (f ∷ fs) xs h i low l =
-      let k : length xs ≡ length fs * p + p = h ∙ suc-mul (length fs) p in
-      let P = take p xs in
-      let t : length P ≡ p = simp length-take (omega arith) in
-      let r : length (drop p xs) ≡ length fs * p = simp length-drop (omega arith) in
-      let A = page_cells f P in
-      let rest = shown_by p fs (drop p xs) in
-      let n = extent not (pages_used p fs (drop p xs)) in
-      let la : length A ≡ p = page_long f P ∙ t in
-      ⊎_elim
-      (λ (lt : i < p).
-      let z = bump_none (not (page_used f P)) n (none_used (bump (not (page_used f P)) n) p i low lt) in
-      let y = empty_page f P z.0 in
-      get_or_append_left A rest lost i (omega arith)
-      ∙ (page_at f P i (omega arith) ∙ rw (y.0, unused P i (omega (arith, y.1)) (omega arith))))
-      (λ (ge : p ≤ i).
-      get_or-append_right A rest p i lost la ge
-      ∙ blank_behind fs (drop p xs) r (i - p) (used_behind (not (page_used f P)) n p i low ge) (omega (arith, suc-mul (length fs) p)))
-      (cases_lt i p)
-
   -- an erased block is not used
   pub used_erased : (m : ℕ) → extent not (pages_used p (replicate m false) (replicate (m * p) 255)) ≡ 0
   unfolding pages_used
@@ -200,11 +113,11 @@ module _ (p : ℕ) where
       let u : used (replicate p 255) ≡ 0 = extent_empty (λ x. eqb x 255) p 255 refl in
       rw (t, d, u, used_erased m)
 
--- the mark, page by page
-pub used_more : (us : List Bool) (i e : ℕ) (u : Bool) → i < length us → get_or us i false ≡ u → e ≡ extent not (take i us)
-    → cond u (i + 1) e ≡ extent not (take (i + 1) us)
-used_more us i e u h g q = sym (extent_more not us i false h ∙ rw g (go u))
-  where
-    go : (u : Bool) → cond (not u) (extent not (take i us)) (i + 1) ≡ cond u (i + 1) e
-    go true = refl
-    go false = sym q
+-- ─── whether a page is used, as the code finds it ───
+
+module _ (p : ℕ) (fs : List Bool) (xs : List ℕ) (full : length xs ≡ length fs * p) (i : ℕ) (there : i < length fs) where
+  pub used_lost : get_or fs i false ≡ true → get_or fs i false ≡ get_or (pages_used p fs xs) i false
+  used_lost e = sym (used_at p fs xs full i there ∙ (rw e))
+
+  pub used_bytes : (n r : ℕ) → get_or fs i false ≡ false → n ≡ p → r ≡ used (take n (drop (i * p) xs)) → ltb 0 r ≡ get_or (pages_used p fs xs) i false
+  used_bytes n r e is h = sym (used_at p fs xs full i there ∙ rw (e, h, is))

@@ -1,5 +1,5 @@
 -- What a supply of power comes to, step by step.
-use Rattle.std.proofs.Common.{◌≡◌, ℕ, ◌-◌, ◌<◌, Bool, true, false, cond, ltb, Ok, Err, sym, refl, arith}
+use Rattle.std.proofs.Common.{◌≡◌, ℕ, ◌+◌, ◌-◌, ◌*◌, ◌/◌, ◌<◌, ◌≤◌, Bool, true, false, cond, ltb, Ok, Err, sym, refl, mul-le-mul_right, suc-mul, div-mul-le_self, arith}
 use Rattle.std.proofs.lemmas.Bool.{ltb-true}
 use Rattle.flash.specs.Meaning.{armed}
 use Rattle.flash.specs.Refused.{is_off}
@@ -41,3 +41,7 @@ cut_before (Armed left j) n c h = go (ltb left n) refl h
     go true t h = let e : c.after ≡ left = cc in let l = ltb-true left n t in omega arith
     go false t h = absurd (not_ok (Armed (left - n) j) c (sym h))
 cut_before Off n c h = absurd (not_ok Off c (sym h))
+
+-- the page that fails is one of the run's
+pub cut_fits : (p : ℕ) (s : Supply) (c : Cut) (n : ℕ) → Err c ≡ spent s (n / p) → c.after * p + p ≤ n
+cut_fits p s c n h = omega (arith, mul-le-mul_right p (cut_before s (n / p) c h), suc-mul c.after p, div-mul-le_self n p)

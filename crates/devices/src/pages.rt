@@ -1,16 +1,17 @@
-// The pages of a NAND chip: how large they are, and which of them cannot be read.
-ghost use Rattle.std.specs.Prelude.{◌≡◌, ◌+◌, ◌*◌, ◌/◌, ◌<◌, ◌≤◌, min, false, [], ◌∷◌, ◌++◌, length, take, drop, replicate};
-ghost use Rattle.flash.specs.Cells.{over};
+// A block of a NAND chip: how large its pages are, and which of them cannot be read.
+ghost use Rattle.std.specs.Prelude.{◌≡◌, ◌+◌, ◌*◌, ◌<◌, ◌≤◌, false, not, length, slice_index_or};
+ghost use Rattle.flash.specs.Refused.{readable, part};
 ghost use Rattle.devices.specs.Sizes.{bytes_in, size_of};
-ghost use Rattle.devices.specs.Pages.{any, lost_by, page_used};
+ghost use Rattle.devices.specs.Pages.{shown_by, pages_used, mark_of};
 
-use crate::memory::reach;
+use flash::bytes::reach;
+use std::array;
 
 // Pages of 512 or of 528 bytes.
-#[derive(Clone, Copy)]
+#[derive(Clone, Copy, Debug, PartialEq, Eq)]
 pub enum NandPage {
-    P512,
-    P528,
+    P512 = 512,
+    P528 = 528,
 }
 
 impl NandPage {
@@ -20,113 +21,60 @@ impl NandPage {
         ensures some { 0 < result }
         ensures few { result ≤ 528 }
     {
-        match self {
-            NandPage::P512 => 512,
-            NandPage::P528 => 528,
-        }
+        self as usize
     }
+}
 
-    // The bytes of a block.
-    pub(crate) fn block(self) -> usize
-        ensures value { result ≡ size_of (bytes_in self) }
-        ensures some { 0 < result }
-        ensures few { result ≤ 4224 }
+// The bytes of a block, and for each of its eight pages whether it cannot be read.
+#[derive(Clone, Copy)]
+pub(crate) struct Block<'a> {
+    pub(crate) bytes: &'a [u8],
+    pub(crate) lost: &'a [bool],
+    pub(crate) page: usize,
+    ghost some: { 0 < page },
+    ghost few: { page ≤ 528 },
+    ghost flags: { length lost.now ≡ 8 },
+    ghost full: { length bytes.now ≡ size_of page },
+}
+
+impl Block<'_> {
+    // Whether a page is in use: it cannot be read, or is not all 0xFF.
+    fn in_use(&self, i: usize) -> bool
+        requires { i < 8 }
+        ensures { result ≡ slice_index_or (pages_used self.now.page self.now.lost.now self.now.bytes.now) i false }
     {
-        8 * self.bytes()
+        self.lost[i] || reach(&self.bytes[i * self.page..(i + 1) * self.page]) > 0
     }
 
-    // Where a block begins.
-    pub(crate) fn start(self, block: usize) -> usize
-        requires { block < 16 }
-        ensures value { result ≡ block * size_of (bytes_in self) }
-        ensures few { result ≤ 67584 }
+    // For each page whether it is in use.
+    fn pages_used(&self) -> [bool; 8]
+        ensures { result ≡ pages_used self.now.page self.now.lost.now self.now.bytes.now }
     {
-        match self {
-            NandPage::P512 => block * 4096,
-            NandPage::P528 => block * 4224,
-        }
+        array::from_fn(|i| self.in_use(i))
     }
 
-    // The bytes of so many pages of a block.
-    pub(crate) fn span(self, pages: usize) -> usize
-        requires { pages ≤ 8 }
-        ensures value { result ≡ pages * bytes_in self }
-        ensures few { result ≤ 4224 }
+    // The end of the last page that is in use.
+    pub(crate) fn mark(&self) -> usize
+        ensures { result ≡ mark_of self.now.page self.now.lost.now self.now.bytes.now }
     {
-        match self {
-            NandPage::P512 => pages * 512,
-            NandPage::P528 => pages * 528,
+        let pages = self
+            .pages_used()
+            .iter()
+            .rposition(|used| *used)
+            .map_or(0, |last| last + 1);
+        pages * self.page
+    }
+
+    // Whether one of n bytes from an offset on lies in a page that cannot be read.
+    pub(crate) fn is_lost(&self, offset: usize, n: usize) -> bool
+        requires { offset + n ≤ size_of self.now.page }
+        ensures { result ≡ not (readable (part (shown_by self.now.page self.now.lost.now self.now.bytes.now) offset n)) }
+    {
+        if n == 0 {
+            return false;
         }
-    }
-}
-
-// Whether a page is in use: it cannot be read, or is not all 0xFF.
-pub(crate) fn page_used(lost: bool, part: &[u8]) -> bool
-    ensures { result ≡ page_used lost part.now }
-{
-    if lost {
-        return true;
-    }
-    reach(part) > 0
-}
-
-// Whether one of the flags is set.
-pub(crate) fn any_set(flags: &[bool]) -> bool
-    ensures { result ≡ any flags.now }
-{
-    for x in flags {
-        if *x {
-            return true;
-        }
-    }
-    false
-}
-
-// Sets each flag so.
-pub(crate) fn set_all(flags: &mut [bool], to: bool)
-    ensures { flags.new ≡ replicate (length flags.old) to }
-{
-    flags.fill(to);
-}
-
-// The number of blocks for which there are flags, one for each page.
-pub(crate) fn blocks_of(lost: &[bool; 128]) -> usize
-    ensures { result ≡ min (length lost.now / 8) 16 }
-{
-    lost.len() / 8
-}
-
-// Whether one of n pages cannot be read.
-pub(crate) fn lost_among(lost: &[bool; 128], first: usize, n: usize) -> bool
-    requires { first + n ≤ 128 }
-    ensures { result ≡ any (take n (drop first lost.now)) }
-{
-    any_set(&lost[first..first + n])
-}
-
-// Sets the flags of n pages.
-pub(crate) fn put(lost: &mut [bool; 128], first: usize, n: usize, to: bool)
-    requires { first + n ≤ 128 }
-    ensures { lost.new ≡ over lost.old first (replicate n to) }
-{
-    set_all(&mut lost[first..first + n], to);
-}
-
-// After n pages that can be read, one that can or cannot.
-pub(crate) fn put_last(lost: &mut [bool; 128], first: usize, n: usize, to: bool)
-    requires { first + n < 128 }
-    ensures { lost.new ≡ over lost.old first (replicate n false ++ (to ∷ [])) }
-{
-    put(lost, first, n, false);
-    put(lost, first + n, 1, to);
-}
-
-// Loses the pages of a block, if so it is.
-pub(crate) fn lose(lost: &mut [bool; 128], block: usize, so: bool)
-    requires { block < 16 }
-    ensures { lost.new ≡ lost_by so lost.old block }
-{
-    if so {
-        put(lost, block * 8, 8, true);
+        let first = offset / self.page;
+        let last = (offset + n - 1) / self.page;
+        self.lost[first..last + 1].contains(&true)
     }
 }

@@ -1,7 +1,5 @@
-use Rattle.devices.proofs.NandAnswers.{restart_met}
+use Rattle.devices.proofs.NandMeets.{restart_meets}
 use Rattle.devices.proofs.nand.NandFlash.restart.Goals as goal
 
-pub returns : goal.returns
-returns c =
-    let e = c.power_up.ensures in
-    record { met = restart_met _ _ e.1 _ _ _ _ _ _ e.0 e.2 e.3; exact = e }
+pub returns-clause-met : goal.returns-clause-met
+returns-clause-met c = rw (c.power_up.ensures.same.0, c.power_up.ensures.steady.0, c.power_up.ensures.steady.1) (restart_meets _ _ _ _)

@@ -1,7 +1,9 @@
+use Rattle.std.proofs.Common.{◌≡◌, length, refl, ◌∙◌, rules}
+use Rattle.devices.specs.Bank.{chip}
 use Rattle.devices.specs.Nand.{nand}
-use Rattle.devices.proofs.NandAnswers.{sane}
+use Rattle.devices.proofs.NandCalls.{blocks_are}
 use Rattle.devices.proofs.nand.NandFlash.shape.Goals as goal
 
 pub returns : goal.returns
-unfolding nand
-returns c = record { value = λ _. (c.blocks-2.ensures, c.block.ensures.value, c.bytes.ensures.value, c.bytes-2.ensures.value); sane = λ _. sane _ _ _ _ }
+unfolding nand chip
+returns c = (c.blocks-2.ensures ∙ blocks_are _ _ _ _ c.args.self.now.eight (search rules), c.args.self.now.eight, refl, refl)
