@@ -1,5 +1,5 @@
 -- Rows made page by page.
-use Rattle.std.proofs.Common.{◌≡◌, ℕ, ◌+◌, ◌*◌, ◌<◌, ◌≤◌, min, Bool, false, List, [], ◌∷◌, ◌++◌, length, get_or, take, drop, sym, ap, ◌∙◌, append_assoc, mul-le-mul_right, suc-mul, add-mul, one-mul, zero-mul, arith, length-append, length-drop, take-append-drop, length-take}
+use Rattle.std.proofs.Common.{◌≡◌, ℕ, ◌+◌, ◌*◌, ◌<◌, ◌≤◌, min, Bool, false, List, [], ◌∷◌, ◌++◌, length, get_or, take, drop, sym, ap, ◌∙◌, append_assoc, mul-le-mul_right, suc-mul, add-mul, one-mul, zero-mul, arith, length-drop, take-append-drop, length-take}
 use Rattle.std.proofs.lemmas.List.{take_at, drop_at, drop_more, take-append-le, drop-append-le, nil_from_length}
 use Rattle.flash.specs.Cells.{over}
 use Rattle.devices.specs.Pages.{by_pages}

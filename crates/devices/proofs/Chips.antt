@@ -1,5 +1,5 @@
 -- What a chip means, by what its blocks hold; and when it refuses a call.
-use Rattle.std.proofs.Common.{◌≡◌, ℕ, Bool, true, false, cond, not, eqb, List, Some, None, Ok, Err, Option, sym, refl, ap, ◌∙◌}
+use Rattle.std.proofs.Common.{◌≡◌, ℕ, Bool, true, false, cond, not, eqb, List, Some, None, Ok, Err, Option, refl, ap, ◌∙◌}
 use Rattle.flash.specs.declared.refusal.Refusal.{Refusal}
 use Rattle.flash.specs.declared.refusal.Refusal.TheVariants.{Unreadable}
 use Rattle.flash.specs.Cells.{Cell}

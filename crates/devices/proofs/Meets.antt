@@ -1,5 +1,5 @@
 -- The calls of a chip keep the rules of a flash, by what they make of its blocks.
-use Rattle.std.proofs.Common.{◌≡◌, ℕ, ◌+◌, ◌*◌, ◌/◌, ◌%◌, ◌<◌, ◌≤◌, List, ◌++◌, length, take, drop, Some, None, Ok, Err, Option, Result, sym, refl, ap, ◌∙◌, add-mul, arith}
+use Rattle.std.proofs.Common.{◌≡◌, ℕ, ◌+◌, ◌*◌, ◌/◌, ◌<◌, ◌≤◌, List, ◌++◌, length, take, drop, Some, None, Ok, Err, Option, Result, sym, refl, ap, ◌∙◌, add-mul, arith}
 use lib.ListN.{length-map}
 use Rattle.std.proofs.lemmas.List.{take-map}
 use Rattle.flash.specs.declared.refusal.Refusal.{Refusal}

@@ -1,5 +1,5 @@
 -- What the code of a NAND chip finds and does is what is meant.
-use Rattle.std.proofs.Common.{◌≡◌, ℕ, ◌+◌, ◌*◌, ◌/◌, ◌<◌, ◌≤◌, Bool, true, false, not, List, ◌++◌, length, take, drop, Some, None, Ok, Err, sym, refl, ap, ◌∙◌, subst, add-mul, div-mul-le_self, mul-div_cancel, arith}
+use Rattle.std.proofs.Common.{◌≡◌, ℕ, ◌+◌, ◌*◌, ◌/◌, ◌<◌, ◌≤◌, Bool, true, false, not, List, ◌++◌, length, take, drop, None, Ok, Err, sym, refl, ap, ◌∙◌, subst, add-mul, div-mul-le_self, mul-div_cancel, arith}
 use Rattle.std.proofs.lemmas.Nat.{le-div}
 use Rattle.std.proofs.lemmas.Bool.{true≢false}
 use Rattle.flash.specs.declared.refusal.Refusal.{Refusal}
@@ -16,7 +16,7 @@ use Rattle.devices.specs.Sizes.{size_of}
 use Rattle.devices.specs.Pages.{shown_by, mark_of, flags_laid, flags_wiped}
 use Rattle.devices.specs.Nand.{nand, blocks_of, nand_program, nand_erase}
 use Rattle.devices.specs.Sane.{part_full}
-use Rattle.devices.specs.SanePages.{bytes_there, flags_there}
+use Rattle.devices.specs.SanePages.{flags_there}
 use Rattle.devices.proofs.Meets.{answer_of, after_is, unless_refused, unless_not}
 use Rattle.devices.proofs.Readable.{part_read}
 use Rattle.devices.proofs.Rows.{in_block}

@@ -1,11 +1,11 @@
 -- The calls of a NAND chip keep the rules of a flash.
-use Rattle.std.proofs.Common.{◌≡◌, ℕ, ◌+◌, ◌*◌, ◌/◌, ◌%◌, ◌<◌, ◌≤◌, min, Bool, true, false, cond, not, eqb, List, [], ◌∷◌, ◌++◌, length, take, drop, replicate, None, Ok, Err, Result, sym, refl, ap, ◌∙◌, subst, mul-le-mul_right, add-mul, zero-mul, mul-div_cancel, arith, length-append, length-drop, take-append-drop, length-take}
+use Rattle.std.proofs.Common.{◌≡◌, ℕ, ◌+◌, ◌*◌, ◌/◌, ◌<◌, ◌≤◌, min, Bool, true, false, cond, not, eqb, List, [], ◌∷◌, ◌++◌, length, take, drop, replicate, None, Ok, Err, Result, sym, refl, ap, ◌∙◌, subst, mul-le-mul_right, add-mul, zero-mul, mul-div_cancel, arith, length-append, length-drop, take-append-drop, length-take}
 use lib.ListN.{length-map, length-replicate}
 use Rattle.std.proofs.lemmas.Nat.{le-div}
 use Rattle.std.proofs.lemmas.List.{drop-drop}
 use Rattle.flash.specs.declared.refusal.Refusal.{Refusal}
 use Rattle.flash.specs.declared.refusal.Refusal.TheVariants.{NoPower}
-use Rattle.flash.specs.Cells.{Cell, cells, blank, over}
+use Rattle.flash.specs.Cells.{Cell, cells, over}
 use Rattle.flash.specs.Extent.{extent}
 use Rattle.flash.specs.Meaning.{with_at}
 use Rattle.flash.specs.Refused.{program_refusal, erase_refusal}

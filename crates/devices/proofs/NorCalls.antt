@@ -1,5 +1,5 @@
 -- What the code of a NOR chip finds and does is what is meant.
-use Rattle.std.proofs.Common.{◌≡◌, ℕ, ◌+◌, ◌*◌, ◌/◌, List, length, take, drop, Some, None, Ok, Err, sym, refl, ap, ◌∙◌, arith}
+use Rattle.std.proofs.Common.{◌≡◌, ℕ, ◌+◌, ◌*◌, ◌/◌, List, length, take, drop, Ok, Err, sym, refl, ap, ◌∙◌}
 use Rattle.flash.specs.declared.refusal.Refusal.{Refusal}
 use Rattle.flash.specs.Cells.{cells}
 use Rattle.flash.specs.Refused.{place_refusal, program_refusal}

@@ -1,5 +1,5 @@
 -- The mark of a block of a NOR chip, also once a run was laid behind what it held.
-use Rattle.std.proofs.Common.{◌≡◌, ℕ, ◌+◌, ◌*◌, ◌/◌, ◌%◌, ◌≤◌, eqb, List, length, replicate, refl, ◌∙◌, arith}
+use Rattle.std.proofs.Common.{◌≡◌, ℕ, ◌+◌, ◌%◌, ◌≤◌, eqb, List, length, replicate, refl, arith}
 use Rattle.std.specs.Int.{next_multiple_of}
 use Rattle.flash.specs.Cells.{over}
 use Rattle.flash.specs.Extent.{used}

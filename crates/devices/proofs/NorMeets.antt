@@ -1,5 +1,5 @@
 -- The calls of a NOR chip keep the rules of a flash.
-use Rattle.std.proofs.Common.{◌≡◌, ℕ, ◌+◌, ◌*◌, ◌/◌, ◌%◌, ◌≤◌, List, ◌++◌, length, take, drop, replicate, None, Ok, Err, sym, refl, ap, ◌∙◌, arith, length-drop, length-take}
+use Rattle.std.proofs.Common.{◌≡◌, ℕ, ◌+◌, ◌*◌, ◌/◌, ◌%◌, ◌≤◌, List, length, take, drop, replicate, None, Ok, Err, refl, ap, ◌∙◌, arith, length-drop, length-take}
 use mathlib.Core.List.{map-append}
 use lib.ListN.{length-map, length-replicate}
 use Rattle.flash.specs.declared.refusal.Refusal.TheVariants.{NoPower}

@@ -84,9 +84,6 @@ readable_page true (y ∷ ys) zero (suc n) h l = refl
 readable_page true (y ∷ ys) (suc o) n h l = readable_page true ys o n h (omega (arith, l))
 readable_page false ys o n h l = all (drop o (cells ys)) n (bytes o ys)
   where
-    Bytes : List Cell → Type 0
-    Bytes cs = readable cs ≡ true
-
     bytes : (o : ℕ) (ys : List ℕ) → readable (drop o (cells ys)) ≡ true
     bytes zero [] = refl
     bytes zero (y ∷ ys) = bytes zero ys

@@ -1,10 +1,10 @@
 -- Rows of bytes and of cells, with others laid over them.
-use Rattle.std.proofs.Common.{◌≡◌, ℕ, zero, suc, ◌+◌, ◌-◌, ◌*◌, ◌<◌, ◌≤◌, true, List, [], ◌∷◌, ◌++◌, length, get_or, take, drop, replicate, sym, refl, ap, ◌∙◌, append_assoc, append-nil, arith, length-append, take-append-drop, length-take}
+use Rattle.std.proofs.Common.{◌≡◌, ℕ, zero, suc, ◌+◌, ◌-◌, ◌*◌, ◌≤◌, true, List, [], ◌∷◌, ◌++◌, length, take, drop, replicate, sym, refl, ap, ◌∙◌, append_assoc, append-nil, arith, length-append, take-append-drop, length-take}
 use mathlib.Core.List.{map-append}
 use lib.ListN.{length-map}
 use borrow.Rule.Slice.PartMut.{put_mid}
 use Rattle.std.proofs.lemmas.List.{take_at, take-take, drop-take, drop-drop, drop_all, take-map, drop-map}
-use Rattle.flash.specs.Cells.{Cell, byte, lost, cells, blank, over}
+use Rattle.flash.specs.Cells.{Cell, byte, cells, blank, over}
 use Rattle.flash.specs.Refused.{readable, part}
 use Rattle.devices.specs.Memory.{part_of}
 

@@ -1,15 +1,14 @@
 -- What a block shows, and how far it is used.
-use Rattle.std.proofs.Common.{◌≡◌, ℕ, zero, suc, ◌+◌, ◌-◌, ◌*◌, ◌/◌, ◌<◌, ◌≤◌, Bool, true, false, cond, not, eqb, ltb, List, [], ◌∷◌, ◌++◌, length, get_or, take, drop, replicate, sym, refl, ap, ◌∙◌, ⊎_elim, append-nil, add-zero, mul-le-mul_right, suc-mul, zero-mul, mul-one, add-one, arith, length-drop, length-take}
-use native.Mathlib.Nat.{div-eq_of_lt, div-eq-sub-div}
-use lib.ListN.{length-map, length-replicate}
-use Rattle.std.proofs.lemmas.List.{get_or-replicate, get_or_append_left, get_or-append_right, get_or-take, get_or-drop, take_all, drop_all, map-append, take-append-drop, take-replicate, drop-replicate}
-use Rattle.std.proofs.lemmas.Bool.{cases_lt, ltb-false, true≢false}
-use Rattle.flash.specs.Cells.{Cell, byte, lost, cells, over}
+use Rattle.std.proofs.Common.{◌≡◌, ℕ, zero, suc, ◌+◌, ◌*◌, ◌<◌, ◌≤◌, Bool, true, false, not, eqb, ltb, List, [], ◌∷◌, ◌++◌, length, get_or, take, drop, replicate, sym, refl, ap, ◌∙◌, ⊎_elim, append-nil, add-zero, mul-le-mul_right, suc-mul, zero-mul, mul-one, arith, length-drop, length-take}
+use lib.ListN.{length-replicate}
+use Rattle.std.proofs.lemmas.List.{get_or-take, get_or-drop, take_all, drop_all, map-append, take-append-drop, take-replicate, drop-replicate}
+use Rattle.std.proofs.lemmas.Bool.{cases_lt}
+use Rattle.flash.specs.Cells.{Cell, byte, cells, over}
 use Rattle.flash.specs.Rules as rules
-use Rattle.flash.specs.Extent.{bump, extent, used}
-use Rattle.flash.proofs.Extents.{bump_none, extent_empty, unused}
+use Rattle.flash.specs.Extent.{extent, used}
+use Rattle.flash.proofs.Extents.{extent_empty}
 use Rattle.devices.specs.Pages.{by_pages, page_cells, shown_by, page_used, pages_used}
-use Rattle.devices.specs.SanePages.{page_long, cells_long, one_long, shown_long, used_long}
+use Rattle.devices.specs.SanePages.{cells_long, one_long, shown_long}
 use Rattle.devices.proofs.ByPages.{by_pages_append, by_pages_drop, by_pages_at, by_pages_over}
 
 -- ─── one page ───

@@ -2,7 +2,6 @@
 use Rattle.std.proofs.Common.{◌≡◌, ℕ, ◌+◌, ◌-◌, ◌*◌, ◌/◌, ◌<◌, ◌≤◌, Bool, true, false, cond, ltb, Ok, Err, sym, refl, mul-le-mul_right, suc-mul, div-mul-le_self, arith}
 use Rattle.std.proofs.lemmas.Bool.{ltb-true}
 use Rattle.flash.specs.Meaning.{armed}
-use Rattle.flash.specs.Refused.{is_off}
 use Rattle.devices.specs.declared.supply.Cut.{Cut}
 use Rattle.devices.specs.declared.supply.Supply.{Supply}
 use Rattle.devices.specs.declared.supply.Supply.TheVariants.{Steady, Armed, Off}
@@ -10,11 +9,6 @@ use Rattle.devices.specs.Steps.{spent, power_of}
 
 not_ok : {X Y : Type 0} (x : X) (y : Y) → Ok x ≡ Err y → ⊥
 not_ok x y h = let z : ◌≡◌ {A = ℕ} 0 1 = cc in omega arith
-
-pub on_of : (s : Supply) → (s ≡ Off → ⊥) → is_off (power_of s) ≡ false
-on_of Steady h = refl
-on_of (Armed left j) h = refl
-on_of Off h = absurd (h refl)
 
 -- steps that succeed leave the power as it is
 pub spent_power : (s s' : Supply) (n : ℕ) → Ok s' ≡ spent s n → power_of s' ≡ power_of s

@@ -1,10 +1,10 @@
 -- The meaning of a NAND chip is sane at all times, which is a law of the interface: what a block shows, and how far it is used.
-use Rattle.std.proofs.Common.{◌≡◌, ℕ, zero, suc, ◌+◌, ◌-◌, ◌*◌, ◌/◌, ◌<◌, ◌≤◌, Bool, true, false, cond, not, ltb, List, [], ◌∷◌, ◌++◌, length, get_or, take, drop, sym, refl, ap, ◌∙◌, ⊎_elim, mul-le-mul_right, suc-mul, zero-mul, mul-one, add-one, arith, length-append, length-drop, length-take}
+use Rattle.std.proofs.Common.{◌≡◌, ℕ, zero, suc, ◌+◌, ◌-◌, ◌*◌, ◌/◌, ◌<◌, ◌≤◌, Bool, true, false, cond, not, ltb, List, [], ◌∷◌, length, get_or, take, drop, sym, refl, ap, ◌∙◌, ⊎_elim, mul-le-mul_right, suc-mul, zero-mul, mul-one, add-one, arith, length-append, length-drop, length-take}
 use native.Mathlib.Nat.{mul-mod_left, div-eq_of_lt, div-eq-sub-div}
 use lib.ListN.{length-map, length-replicate}
 use Rattle.std.proofs.lemmas.List.{get_or-replicate, get_or_append_left, get_or-append_right, get_or-take, get_or-drop}
 use Rattle.std.proofs.lemmas.Bool.{cases_lt, ltb-false, true≢false}
-use Rattle.flash.specs.Cells.{Cell, byte, lost, cells}
+use Rattle.flash.specs.Cells.{byte, lost}
 use Rattle.flash.specs.Extent.{bump, extent, used}
 use Rattle.flash.specs.Meaning.{Sane}
 use Rattle.flash.proofs.Extents.{bump_none, extent_le, unused}

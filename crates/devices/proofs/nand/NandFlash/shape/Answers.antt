@@ -1,4 +1,4 @@
-use Rattle.std.proofs.Common.{◌≡◌, length, refl, ◌∙◌, rules}
+use Rattle.std.proofs.Common.{refl, ◌∙◌, rules}
 use Rattle.devices.specs.Bank.{chip}
 use Rattle.devices.specs.Nand.{nand}
 use Rattle.devices.proofs.NandCalls.{blocks_are}

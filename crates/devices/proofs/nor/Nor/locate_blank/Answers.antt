@@ -1,6 +1,4 @@
-use Rattle.std.proofs.Common.{◌∙◌, ap}
 use Rattle.std.proofs.lemmas.Result.{err_from_is_err_and}
-use Rattle.devices.specs.Bank.{placed}
 use Rattle.devices.specs.Nor.{nor}
 use Rattle.devices.proofs.Chips.{program_by, program_not, program_may}
 use Rattle.devices.proofs.NorCalls.{placed_is}

@@ -1,4 +1,4 @@
-use Rattle.std.proofs.Common.{◌≡◌, ◌+◌, ◌-◌, ◌*◌, ◌<◌, length, ap, sym, ◌∙◌, add-mul, one-mul, arith}
+use Rattle.std.proofs.Common.{◌≡◌, ◌+◌, ◌-◌, ◌*◌, ap, sym, ◌∙◌, add-mul, one-mul, arith}
 use Rattle.devices.proofs.Shown.{used_lost, used_bytes}
 use Rattle.devices.proofs.pages.Block.in_use.Goals as goal
 

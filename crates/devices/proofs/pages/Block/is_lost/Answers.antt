@@ -1,4 +1,4 @@
-use Rattle.std.proofs.Common.{◌≡◌, ◌+◌, ◌*◌, ◌≤◌, length, refl, ap, sym, ◌∙◌, arith}
+use Rattle.std.proofs.Common.{◌*◌, refl, ap, sym, ◌∙◌, arith}
 use Rattle.devices.proofs.Readable.{lost_is}
 use Rattle.devices.proofs.pages.Block.is_lost.Goals as goal
 
