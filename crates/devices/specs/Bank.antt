@@ -2,6 +2,7 @@
 -- nothing.
 --
 -- blocks_in       how many blocks of size bytes are in so many bytes, but 16 at most
+-- HasBlock        a block of size bytes is there, among so many bytes
 -- holds_blocks    whether so many bytes are 4 to 16 whole blocks
 -- placed          the refusal of a call at a place, for n bytes from there
 -- run_refusal     the refusal of a run of n bytes at an offset, by the bytes of a page and the mark of the block
@@ -9,7 +10,7 @@
 -- chip            what a chip means, by what its blocks hold and its supply
 -- Outcome         what a call answers, and the state and the supply after it
 -- unless, after, rearmed   the outcome of a call that is refused or not; that takes steps; of an arming
-use Rattle.std.specs.Prelude.{ℕ, ◌*◌, ◌/◌, ◌%◌, min, Bool, true, false, cond, not, List, [], ◌∷◌, Some, None, Ok, Err, Option, Result, ◌==◌, nat_lt, nat_le}
+use Rattle.std.specs.Prelude.{ℕ, ◌+◌, ◌*◌, ◌/◌, ◌%◌, ◌<◌, ◌≤◌, min, Bool, true, false, cond, not, List, [], ◌∷◌, Some, None, Ok, Err, Option, Result, ◌==◌, nat_lt, nat_le}
 use Rattle.flash.specs.declared.refusal.Refusal.{Refusal}
 use Rattle.flash.specs.declared.refusal.Refusal.TheVariants.{NoPower, Outside, NotPages, BelowMark}
 use Rattle.flash.specs.Cells.{Cell}
@@ -24,6 +25,9 @@ use Rattle.devices.specs.Memory.{leaves}
 
 abbrev pub blocks_in : ℕ → ℕ → ℕ
 blocks_in size len = min (len / size) 16
+
+abbrev pub HasBlock : ℕ → ℕ → ℕ → Type 0
+HasBlock size len b = (b < 16) × (b * size + size ≤ len)
 
 abbrev pub holds_blocks : ℕ → ℕ → Bool
 holds_blocks size n = cond (n % size == 0) (cond (nat_le (4 * size) n) (nat_le n (16 * size)) false) false

@@ -3,11 +3,11 @@ ghost use Rattle.std.specs.Prelude.{◌≡◌, ◌+◌, ◌*◌, ◌/◌, ◌<�
 ghost use Rattle.flash.specs.Rules.{answered};
 ghost use Rattle.devices.specs.Memory.{part_of, leaves, Within, laid, wiped};
 ghost use Rattle.devices.specs.Steps.{spent, taken, left_by, arming};
-ghost use Rattle.devices.specs.Bank.{blocks_in, holds_blocks, placed, run_refusal, allowed, outcome, rearmed};
+ghost use Rattle.devices.specs.Bank.{blocks_in, HasBlock, holds_blocks, placed, run_refusal, allowed, outcome, rearmed};
 
 use crate::memory::{spoil, tear, wipe};
 use crate::supply::{Cut, Supply};
-use flash::place::Place;
+use flash::place::{Place, Shape};
 use flash::refusal::Refusal;
 
 // Blocks of `size` bytes, programmed in pages of `page` bytes.
@@ -48,16 +48,29 @@ impl<'a> Bank<'a> {
 }
 
 impl Bank<'_> {
-    pub(crate) fn blocks(&self) -> usize
+    fn blocks(&self) -> usize
         ensures { result ≡ blocks_in self.now.size (length self.now.memory.now) }
     {
         (self.memory.len() / self.size).min(16)
     }
 
+    // How large the chip is. What is programmed settles at once, so a page is a batch.
+    pub(crate) fn shape(&self) -> Shape
+        ensures blocks { result.blocks ≡ blocks_in self.now.size (length self.now.memory.now) }
+        ensures size { result.size ≡ self.now.size }
+        ensures pages { (result.page ≡ self.now.page) × (result.batch ≡ self.now.page) }
+    {
+        Shape {
+            blocks: self.blocks(),
+            size: self.size,
+            page: self.page,
+            batch: self.page,
+        }
+    }
+
     // The bytes of a block.
     pub(crate) fn block(&self, block: usize) -> &[u8]
-        requires few { block < 16 }
-        requires fits { block * self.now.size + self.now.size ≤ length self.now.memory.now }
+        requires { HasBlock self.now.size (length self.now.memory.now) block }
         ensures { result.now ≡ part_of self.now.size self.now.memory.now block }
     {
         let from = block * self.size;
@@ -83,7 +96,7 @@ impl Bank<'_> {
     pub(crate) fn locate(&self, at: Place, n: usize) -> Result<usize, Refusal>
         ensures value { result ≡ answered (placed self.now.size (length self.now.memory.now) self.now.supply at.block at.offset n) (at.block * self.now.size + at.offset) }
         ensures within { IfOk result (λ from. Within self.now.size (length self.now.memory.now) at.block at.offset n from) }
-        ensures few { IfOk result (λ _. at.block < 16) }
+        ensures there { IfOk result (λ _. HasBlock self.now.size (length self.now.memory.now) at.block) }
     {
         if let Supply::Off = self.supply {
             return Err(Refusal::NoPower);
@@ -133,8 +146,7 @@ impl Bank<'_> {
 
     // Erases a block, which is one step. One that fails sets the fault's bits in the block.
     pub(crate) fn clear(&mut self, block: usize) -> Result<(), Cut>
-        requires few { block < 16 }
-        requires fits { block * self.old.size + self.old.size ≤ length self.old.memory.now }
+        requires { HasBlock self.old.size (length self.old.memory.now) block }
         ensures value { result ≡ taken (spent self.old.supply 1) }
         ensures left { self.new.supply ≡ left_by (spent self.old.supply 1) }
         ensures memory { self.new.memory.now ≡ wiped self.old.size self.old.memory.now block result }

@@ -5,7 +5,7 @@ ghost use Rattle.flash.specs.Refused.{program_refusal, read_refusal};
 ghost use Rattle.flash.specs.Rules.{answered, Programmed, Erased, Armed, Restarted};
 ghost use Rattle.devices.specs.Memory.{part_of, Within};
 ghost use Rattle.devices.specs.declared.supply.Supply.{Supply};
-ghost use Rattle.devices.specs.Bank.{holds_blocks, outcome};
+ghost use Rattle.devices.specs.Bank.{HasBlock, holds_blocks, outcome};
 ghost use Rattle.devices.specs.Sizes.{bytes_in, size_of};
 ghost use Rattle.devices.specs.Pages.{flags_laid, flags_wiped};
 ghost use Rattle.devices.specs.Nand.{nand, nand_program, nand_erase, nand_arm};
@@ -67,8 +67,7 @@ fn flag_wiped(lost: &mut [bool; 128], block: usize, done: Result<(), Cut>)
 impl Nand<'_> {
     // A block as it stands.
     fn block(&self, block: usize) -> Block<'_>
-        requires few { block < 16 }
-        requires fits { block * self.now.bank.size + self.now.bank.size ≤ length self.now.bank.memory.now }
+        requires { HasBlock self.now.bank.size (length self.now.bank.memory.now) block }
         ensures bytes { result.bytes.now ≡ part_of (size_of self.now.bank.page) self.now.bank.memory.now block }
         ensures lost { result.lost.now ≡ part_of 8 self.now.lost block }
         ensures page { result.page ≡ self.now.bank.page }
@@ -84,7 +83,7 @@ impl Nand<'_> {
     fn locate_blank(&self, at: Place, n: usize) -> Result<usize, Refusal>
         ensures value { result ≡ answered (program_refusal (nand self.now.bank.page self.now.bank.memory.now self.now.lost self.now.bank.supply) at.block at.offset n) (at.block * size_of self.now.bank.page + at.offset) }
         ensures within { IfOk result (λ from. Within (size_of self.now.bank.page) (length self.now.bank.memory.now) at.block at.offset n from) }
-        ensures few { IfOk result (λ _. at.block < 16) }
+        ensures there { IfOk result (λ _. HasBlock self.now.bank.size (length self.now.bank.memory.now) at.block) }
     {
         let from = self.bank.locate(at, n)?;
         self.bank.allow(at.offset, n, self.block(at.block).mark())?;
@@ -112,12 +111,7 @@ impl Flash for Nand<'_> {
     ghost meaning = { λ s. nand s.bank.page s.bank.memory.now s.lost s.bank.supply };
 
     fn shape(&self) -> Shape {
-        Shape {
-            blocks: self.bank.blocks(),
-            size: self.bank.size,
-            page: self.bank.page,
-            batch: self.bank.page,
-        }
+        self.bank.shape()
     }
 
     fn mark(&self, block: usize) -> Result<usize, Refusal> {

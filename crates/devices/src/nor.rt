@@ -4,7 +4,7 @@ ghost use Rattle.flash.specs.Refused.{program_refusal};
 ghost use Rattle.flash.specs.Rules.{answered, Programmed, Erased, Armed, Restarted};
 ghost use Rattle.devices.specs.Memory.{part_of, Within};
 ghost use Rattle.devices.specs.declared.supply.Supply.{Supply};
-ghost use Rattle.devices.specs.Bank.{holds_blocks, outcome};
+ghost use Rattle.devices.specs.Bank.{HasBlock, holds_blocks, outcome};
 ghost use Rattle.devices.specs.Nor.{SIZE, mark_of, nor, nor_program, nor_erase, nor_arm};
 
 use crate::bank::Bank;
@@ -38,8 +38,7 @@ impl<'a> Nor<'a> {
 impl Nor<'_> {
     // The end of the last page of a block that is not all 0xFF.
     fn mark_of(&self, block: usize) -> usize
-        requires few { block < 16 }
-        requires fits { block * 4096 + 4096 ≤ length self.now.bank.memory.now }
+        requires { HasBlock self.now.bank.size (length self.now.bank.memory.now) block }
         ensures { result ≡ mark_of (part_of SIZE self.now.bank.memory.now block) }
     {
         reach(self.bank.block(block)).next_multiple_of(PAGE)
@@ -64,12 +63,7 @@ impl Flash for Nor<'_> {
     ghost meaning = { λ s. nor s.bank.memory.now s.bank.supply };
 
     fn shape(&self) -> Shape {
-        Shape {
-            blocks: self.bank.blocks(),
-            size: BLOCK,
-            page: PAGE,
-            batch: PAGE,
-        }
+        self.bank.shape()
     }
 
     fn mark(&self, block: usize) -> Result<usize, Refusal> {

@@ -13,7 +13,7 @@ returns-in_err-from c =
 pub flag_laid-requires-clause-pages : goal.flag_laid-requires-clause-pages
 flag_laid-requires-clause-pages c =
     let w = c.in_ok-from.ensures in
-    pages_there _ _ _ _ c.args.self.now.bank.some w.few w.within.1
+    pages_there _ _ _ _ c.args.self.now.bank.some w.there.0 w.within.1
 
 pub returns-in_err-done : goal.returns-in_err-done
 returns-in_err-done c =

@@ -1,4 +1,4 @@
-use Rattle.std.proofs.Common.{refl, ◌∙◌, rules}
+use Rattle.std.proofs.Common.{◌∙◌, rules}
 use Rattle.devices.specs.Bank.{chip}
 use Rattle.devices.specs.Nand.{nand}
 use Rattle.devices.proofs.NandCalls.{blocks_are}
@@ -6,4 +6,7 @@ use Rattle.devices.proofs.nand.NandFlash.shape.Goals as goal
 
 pub returns : goal.returns
 unfolding nand chip
-returns c = (c.blocks-2.ensures ∙ blocks_are _ _ _ _ c.args.self.now.eight (search rules), c.args.self.now.eight, refl, refl)
+returns c =
+    let self = c.args.self.now in
+    let s = c.shape.ensures in
+    (s.blocks ∙ blocks_are _ _ _ _ self.eight (search rules), s.size ∙ self.eight, s.pages.0, s.pages.1)

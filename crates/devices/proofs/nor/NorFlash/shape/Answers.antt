@@ -1,8 +1,11 @@
-use Rattle.std.proofs.Common.{length, refl, ap, ◌∙◌}
+use Rattle.std.proofs.Common.{length, ap, ◌∙◌}
 use Rattle.devices.specs.Bank.{blocks_in, chip}
 use Rattle.devices.specs.Nor.{SIZE, nor}
 use Rattle.devices.proofs.nor.NorFlash.shape.Goals as goal
 
 pub returns : goal.returns
 unfolding nor chip SIZE
-returns c = (c.blocks-2.ensures ∙ ap (λ n. blocks_in n (length c.args.self.now.bank.memory.now)) c.args.self.now.size, refl, refl, refl)
+returns c =
+    let self = c.args.self.now in
+    let s = c.shape.ensures in
+    (s.blocks ∙ ap (λ n. blocks_in n (length self.bank.memory.now)) self.size, s.size ∙ self.size, s.pages.0 ∙ self.page, s.pages.1 ∙ self.page)
