@@ -30,8 +30,8 @@ use devices::nor::Nor;
 use flash::interface::Flash;
 use layers::buffer::WriteBuffer;
 use line::{Verb, fill, parse};
-use nand::chip::Nand;
-use nand::pages::NandPage;
+use devices::nand::Nand;
+use devices::pages::NandPage;
 use std::io;
 
 // The most bytes of memory.
