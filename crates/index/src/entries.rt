@@ -51,8 +51,8 @@ pub(crate) fn is_named(blocks: &[Block], ino: u32) -> bool
 fn is_first_met(blocks: &[Block], entry: &EntryRecord) -> bool
     ensures { result ≡ first_met (all_entries blocks.now) entry.now }
 {
-    newest_entry(blocks, entry.pino, entry.name.as_slice()).is_some_and(|found| found.place
-        == entry.place)
+    let found = newest_entry(blocks, entry.pino, entry.name.as_slice());
+    found.is_some_and(|f| f.place == entry.place)
 }
 
 // How many names a directory has.

@@ -5,8 +5,9 @@
 
 pub mod block;
 pub mod contents;
+mod elsewhere;
 pub mod entries;
-pub mod kind;
+mod kind;
 pub mod name;
 mod needed;
 mod newest;
