@@ -5,13 +5,13 @@
 
 pub mod block;
 pub mod contents;
+mod elsewhere;
 pub mod entries;
-mod keyed;
+mod kind;
 pub mod name;
 mod needed;
 mod newest;
 pub mod numbers;
-mod pass;
 pub mod record;
 pub mod run;
 pub mod spent;

@@ -6,7 +6,7 @@ use index::entries::{count_names, entry_of, next_entry};
 use index::numbers::{highest_number, highest_version};
 use index::record::EntryRecord;
 use index::run::Run;
-use index::spent::{is_content_missed, is_entry_missed};
+use index::spent::is_missed;
 
 // A word, and numbers; those that a line does not answer are 0.
 #[derive(Clone, Copy)]
@@ -60,10 +60,10 @@ fn missed(blocks: &[Block]) -> usize {
     let mut bits: usize = 1;
     for (home, block) in blocks.iter().enumerate() {
         for entry in block.entries.as_slice() {
-            bits = bits.wrapping_mul(2) | is_entry_missed(blocks, home, entry) as usize;
+            bits = bits.wrapping_mul(2) | is_missed(blocks, home, entry) as usize;
         }
         for content in block.contents.as_slice() {
-            bits = bits.wrapping_mul(2) | is_content_missed(blocks, home, content) as usize;
+            bits = bits.wrapping_mul(2) | is_missed(blocks, home, content) as usize;
         }
     }
     bits

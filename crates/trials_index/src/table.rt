@@ -2,13 +2,14 @@
 use crate::line::{Line, Verb};
 use flash::place::Place;
 use index::block::{Block, State};
-use index::record::{ContentRecord, EntryRecord, Name};
+use index::name::Name;
+use index::record::{ContentRecord, EntryRecord};
 use index::spent::find_spent;
 use std::alloc::Global;
 
 fn put_entry(block: &mut Block, line: &Line<'_>) -> bool {
     let [home, offset, pino, version, ino, dtype, ..] = line.numbers;
-    let Some(name) = Name::new(line.name) else {
+    let Ok(name) = Name::try_from(line.name) else {
         return false;
     };
     let Ok(dtype) = u8::try_from(dtype) else {
