@@ -9,7 +9,7 @@ use anyhow::ensure;
 use bench_parts::show::Answer;
 use devices::nor::Nor;
 use flash::interface::Flash;
-use show::Shape;
+use show::Shown;
 use task::{BLOCK, perform};
 
 const BLOCKS: usize = 8;
@@ -22,7 +22,7 @@ fn run(rt: &HostRuntime) -> anyhow::Result<()> {
     let mut memory = vec![in rt.alloc(); 0; BLOCKS * BLOCK]?;
     match Nor::new(&mut memory) {
         Ok(card) => {
-            let shape = Shape(card.shape());
+            let shape = Shown(card.shape());
             println!(rt; "NOR card: {shape}")?;
             perform(rt, card)
         }

@@ -1,14 +1,13 @@
-// How items, shapes and marks are shown.
-use bench_parts::show::{Answer, text};
-use flash::place;
-use flash::refusal::Refusal;
+// How items and shapes are shown.
+use bench_parts::show::text;
+use flash::place::Shape;
 use nodes::item::Item;
 use nodes::record::{Content, Entry};
 use std::fmt;
 
-// An item with its fields.
+// An item or a shape with its fields.
 #[derive(Clone, Copy)]
-pub(crate) struct Shown<'a>(pub(crate) Item<'a>);
+pub(crate) struct Shown<T>(pub(crate) T);
 
 fn write_entry<W: fmt::Write>(f: &mut fmt::Formatter<W>, entry: Entry<'_>) -> fmt::Result {
     let Entry {
@@ -46,7 +45,7 @@ fn write_content<W: fmt::Write>(f: &mut fmt::Formatter<W>, content: Content<'_>)
     write!(f, "\n    {bytes:?}")
 }
 
-impl fmt::Display for Shown<'_> {
+impl fmt::Display for Shown<Item<'_>> {
     fn fmt<W: fmt::Write>(&self, f: &mut fmt::Formatter<W>) -> fmt::Result {
         match self.0 {
             Item::Zero => write!(f, "zero word"),
@@ -59,13 +58,9 @@ impl fmt::Display for Shown<'_> {
     }
 }
 
-// How large a flash is.
-#[derive(Clone, Copy)]
-pub(crate) struct Shape(pub(crate) place::Shape);
-
-impl fmt::Display for Shape {
+impl fmt::Display for Shown<Shape> {
     fn fmt<W: fmt::Write>(&self, f: &mut fmt::Formatter<W>) -> fmt::Result {
-        let place::Shape {
+        let Shape {
             blocks,
             size,
             page,
@@ -75,18 +70,5 @@ impl fmt::Display for Shape {
             f,
             "{blocks} blocks of {size} bytes, pages of {page}, batches of {batch}"
         )
-    }
-}
-
-// Where the next program of a block may begin.
-#[derive(Clone, Copy)]
-pub(crate) struct Mark(pub(crate) Result<usize, Refusal>);
-
-impl fmt::Display for Mark {
-    fn fmt<W: fmt::Write>(&self, f: &mut fmt::Formatter<W>) -> fmt::Result {
-        match self.0 {
-            Ok(offset) => write!(f, "offset {offset}"),
-            Err(refusal) => Answer(Err(refusal)).fmt(f),
-        }
     }
 }

@@ -1,9 +1,9 @@
 // The task: what is done with one block of a card, and printed of it.
-use crate::show::{Mark, Shown};
+use crate::show::Shown;
 use anyhow::Context;
 use bench_parts::log::Log;
 use bench_parts::pieces::{content, entry};
-use bench_parts::show::Answer;
+use bench_parts::show::{Answer, Mark};
 use encode::filler::marker;
 use encode::node::{encode_content, encode_entry};
 use flash::interface::Flash;
@@ -35,7 +35,7 @@ struct Task<'a, F> {
 
 impl<F: Flash + Drop> Task<'_, F> {
     // Programs the n bytes of the run at the log's end; the log goes on behind them where that was accepted.
-    fn lay(&mut self, n: usize, what: &'static str) -> anyhow::Result<()> {
+    fn lay(&mut self, what: &'static str, n: usize) -> anyhow::Result<()> {
         let bytes = self.run.get(..n).context("an item longer than the run")?;
         let offset = self.log.end;
         let place = Place {
@@ -51,17 +51,17 @@ impl<F: Flash + Drop> Task<'_, F> {
 
     fn lay_marker(&mut self) -> anyhow::Result<()> {
         let n = marker(&mut self.run).context("no room for the marker")?;
-        self.lay(n, "marker")
+        self.lay("marker", n)
     }
 
-    fn lay_entry(&mut self, entry: &Entry<'_>, what: &'static str) -> anyhow::Result<()> {
+    fn lay_entry(&mut self, what: &'static str, entry: &Entry<'_>) -> anyhow::Result<()> {
         let n = encode_entry(entry, &mut self.run).context("an entry that cannot be laid")?;
-        self.lay(n, what)
+        self.lay(what, n)
     }
 
-    fn lay_content(&mut self, content: &Content<'_>, what: &'static str) -> anyhow::Result<()> {
+    fn lay_content(&mut self, what: &'static str, content: &Content<'_>) -> anyhow::Result<()> {
         let n = encode_content(content, &mut self.run).context("a content that cannot be laid")?;
-        self.lay(n, what)
+        self.lay(what, n)
     }
 
     fn erase(&mut self) -> anyhow::Result<()> {
@@ -80,15 +80,13 @@ impl<F: Flash + Drop> Task<'_, F> {
     fn fill(&mut self) -> anyhow::Result<()> {
         let dir = FileKind::Directory;
         let file = FileKind::File;
-        self.lay_content(&content(TOP, 1, dir, 0, b""), "directory 2")?;
-        self.lay_entry(&entry(ROOT, TOP, dir, b"top"), "its name, /top")?;
-        self.lay_content(&content(TRACK, 1, file, 0, b""), "file 3")?;
-        self.lay_entry(
-            &entry(TOP, TRACK, file, b"track-7"),
-            "its name, /top/track-7",
-        )?;
+        self.lay_content("directory 2", &content(TOP, 1, dir, 0, b""))?;
+        self.lay_entry("its name, /top", &entry(ROOT, TOP, dir, b"top"))?;
+        self.lay_content("file 3", &content(TRACK, 1, file, 0, b""))?;
+        let name = entry(TOP, TRACK, file, b"track-7");
+        self.lay_entry("its name, /top/track-7", &name)?;
         let text = b"net GND 100,200 to 100,900\n";
-        self.lay_content(&content(TRACK, 2, file, 0, text), "27 bytes of it")
+        self.lay_content("27 bytes of it", &content(TRACK, 2, file, 0, text))
     }
 
     // Cuts the power in the middle of the next content, and restarts.
@@ -96,10 +94,8 @@ impl<F: Flash + Drop> Task<'_, F> {
         let answer = Answer(self.card.arm(9, 0x10));
         println!(self.rt; "arm: 9 more words succeed, the next fails with fault 0x10: {answer}")?;
         let more = b"net VCC 300,200 to 300,900\n";
-        self.lay_content(
-            &content(TRACK, 3, FileKind::File, 27, more),
-            "27 bytes more",
-        )?;
+        let content = content(TRACK, 3, FileKind::File, 27, more);
+        self.lay_content("27 bytes more", &content)?;
         self.erase()?;
         self.mark()?;
         self.card.restart();
@@ -130,12 +126,8 @@ impl<F: Flash + Drop> Task<'_, F> {
         let answer = Answer(self.card.read(start, &mut bytes));
         println!(self.rt; "read block {WORK}: {answer}")?;
         let reached = self.show_items(&bytes)?;
-        for lost in self
-            .log
-            .asked
-            .iter()
-            .filter(|asked| asked.offset >= reached)
-        {
+        let asked = self.log.asked.iter();
+        for lost in asked.filter(|asked| asked.offset >= reached) {
             let offset = lost.offset;
             let what = lost.what;
             println!(self.rt;

@@ -56,3 +56,16 @@ impl fmt::Display for Answer {
         }
     }
 }
+
+// Where the next program of a block may begin.
+#[derive(Clone, Copy)]
+pub struct Mark(pub Result<usize, Refusal>);
+
+impl fmt::Display for Mark {
+    fn fmt<W: fmt::Write>(&self, f: &mut fmt::Formatter<W>) -> fmt::Result {
+        match self.0 {
+            Ok(offset) => write!(f, "offset {offset}"),
+            Err(refusal) => Answer(Err(refusal)).fmt(f),
+        }
+    }
+}

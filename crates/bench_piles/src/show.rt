@@ -1,14 +1,13 @@
-// How items, shapes and marks are shown.
-use bench_parts::show::{Answer, text};
-use flash::place;
-use flash::refusal::Refusal;
+// How items and shapes are shown.
+use bench_parts::show::text;
+use flash::place::Shape;
 use nodes::item::Item;
 use nodes::record::{Content, Entry};
 use std::fmt;
 
-// An item with its fields.
+// An item or a shape with its fields.
 #[derive(Clone, Copy)]
-pub(crate) struct Shown<'a>(pub(crate) Item<'a>);
+pub(crate) struct Shown<T>(pub(crate) T);
 
 // Bytes as text behind a colon, if there are any.
 fn write_text<W: fmt::Write>(f: &mut fmt::Formatter<W>, bytes: &[u8]) -> fmt::Result {
@@ -51,7 +50,7 @@ fn write_content<W: fmt::Write>(f: &mut fmt::Formatter<W>, content: Content<'_>)
     write_text(f, payload)
 }
 
-impl fmt::Display for Shown<'_> {
+impl fmt::Display for Shown<Item<'_>> {
     fn fmt<W: fmt::Write>(&self, f: &mut fmt::Formatter<W>) -> fmt::Result {
         match self.0 {
             Item::Zero => write!(f, "zero word, length 4"),
@@ -64,13 +63,9 @@ impl fmt::Display for Shown<'_> {
     }
 }
 
-// How large a flash is.
-#[derive(Clone, Copy)]
-pub(crate) struct Shape(pub(crate) place::Shape);
-
-impl fmt::Display for Shape {
+impl fmt::Display for Shown<Shape> {
     fn fmt<W: fmt::Write>(&self, f: &mut fmt::Formatter<W>) -> fmt::Result {
-        let place::Shape {
+        let Shape {
             blocks,
             size,
             page,
@@ -80,18 +75,5 @@ impl fmt::Display for Shape {
             f,
             "blocks {blocks}, bytes in a block {size}, in a page {page}, in a batch {batch}"
         )
-    }
-}
-
-// Where the next program of a block may begin.
-#[derive(Clone, Copy)]
-pub(crate) struct Mark(pub(crate) Result<usize, Refusal>);
-
-impl fmt::Display for Mark {
-    fn fmt<W: fmt::Write>(&self, f: &mut fmt::Formatter<W>) -> fmt::Result {
-        match self.0 {
-            Ok(offset) => write!(f, "offset {offset}"),
-            Err(refusal) => Answer(Err(refusal)).fmt(f),
-        }
     }
 }

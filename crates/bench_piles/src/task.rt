@@ -1,7 +1,8 @@
-// One block of a card: what can be done with it, each step printed with its answer.
-use crate::show::{Mark, Shape, Shown};
+// One block of a card: what can be done with it, each step printed with its answer. The methods that `bench` has too stay
+// with it: a function that is public has a contract, and none can say what is printed.
+use crate::show::Shown;
 use bench_parts::log::Log;
-use bench_parts::show::Answer;
+use bench_parts::show::{Answer, Mark};
 use encode::filler::{filling, marker};
 use encode::node::{encode_content, encode_entry};
 use flash::interface::Flash;
@@ -42,7 +43,7 @@ impl<'a, F: Flash + Drop> Task<'a, F> {
     // Begins under a title, on a block of which nothing is asked yet.
     pub(crate) fn begin(&mut self, title: &str) -> io::Result<()> {
         self.log = Log::new(self.rt.alloc());
-        let shape = Shape(self.card.shape());
+        let shape = Shown(self.card.shape());
         println!(self.rt; "{title}: {shape}")
     }
 
@@ -138,12 +139,8 @@ impl<'a, F: Flash + Drop> Task<'a, F> {
     pub(crate) fn survey(&mut self) -> io::Result<()> {
         self.read()?;
         let reached = self.show_items()?;
-        for lost in self
-            .log
-            .asked
-            .iter()
-            .filter(|asked| asked.offset >= reached)
-        {
+        let asked = self.log.asked.iter();
+        for lost in asked.filter(|asked| asked.offset >= reached) {
             let what = lost.what;
             let offset = lost.offset;
             println!(self.rt; "  lost: {what}, asked for at block {WORK}, offset {offset}")?;

@@ -35,13 +35,16 @@ fn restart<F: Flash>(flash: &mut F) -> Answer {
 }
 
 // Reads the eighths of a block.
-fn look<F: Flash>(flash: &F, block: usize, out: &mut [u8]) -> Answer {
-    let mut all = 1;
+fn look<F: Flash>(flash: &F, block: usize) -> Answer {
+    let mut room = [0; 528];
+    let eighth = if flash.shape().size == 4096 { 512 } else { 528 };
+    let out = &mut room[..eighth];
+    let mut all: usize = 1;
     let mut readable = 0;
     for i in 0..8usize {
-        let offset = out.len().saturating_mul(i);
+        let offset = i * eighth;
         if flash.read(Place { block, offset }, out).is_ok() {
-            all = usize::with(all, crc32::sum_of(out) as usize);
+            all = all.with(crc32::sum_of(out) as usize);
             readable |= 0x80 >> i;
         }
     }
@@ -60,7 +63,6 @@ pub(crate) fn ask<F: Flash>(flash: &mut F, command: Command) -> Answer {
         Command::Erase { block } => flash.erase(block).into(),
         Command::Arm { steps, fault } => flash.arm(steps, fault).into(),
         Command::Restart => restart(flash),
-        Command::Look { block } if flash.shape().size == 4096 => look(flash, block, &mut [0; 512]),
-        Command::Look { block } => look(flash, block, &mut [0; 528]),
+        Command::Look { block } => look(flash, block),
     }
 }

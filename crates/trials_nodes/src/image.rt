@@ -19,10 +19,9 @@ fn lay(block: &mut [u8], place: usize, bytes: &[u8]) {
 
 // The word at a place, or 0 where the bytes end before it does.
 fn word(bytes: &[u8], at: usize) -> u32 {
-    match bytes.get(at..).and_then(|rest| rest.first_chunk()) {
-        Some(word) => u32::from_le_bytes(*word),
-        None => 0,
-    }
+    let rest = bytes.get(at..).unwrap_or(b"");
+    rest.first_chunk()
+        .map_or(0, |word| u32::from_le_bytes(*word))
 }
 
 // The sum of the n bytes at a place, or of those that there are.
