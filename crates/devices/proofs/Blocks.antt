@@ -1,13 +1,13 @@
 -- The blocks of a memory in which new bytes were laid within one block.
-use Rattle.std.proofs.Common.{◌≡◌, ℕ, ◌+◌, ◌*◌, ◌<◌, ◌≤◌, ◌⊎◌, List, length, get_or, drop, sym, ap, ◌∙◌, inl, inr, ⊎_elim, mul-le-mul_right, add-mul, one-mul, arith, length-drop, length-take}
+use Rattle.std.proofs.Common.{◌≡◌, ℕ, ◌+◌, ◌*◌, ◌<◌, ◌≤◌, ◌⊎◌, cond, List, length, get_or, drop, sym, ap, ◌∙◌, inl, inr, ⊎_elim, mul-le-mul_right, add-mul, one-mul, add-zero, arith, length-drop, length-take}
 use Rattle.std.proofs.lemmas.List.{same_lists, get_or-take, get_or-drop}
 use Rattle.std.proofs.lemmas.Bool.{cases_lt}
 use Rattle.flash.specs.Cells.{over}
-use Rattle.flash.proofs.Over.{over_length, over_below, over_in, over_above}
+use Rattle.flash.specs.Meaning.{with_at}
+use Rattle.flash.proofs.Over.{by_place, over_length, over_below, over_in, over_above}
 use Rattle.devices.specs.Memory.{part_of}
-
-pub part_full : {X : Type 0} (size : ℕ) (mem : List X) (b : ℕ) → b * size + size ≤ length mem → length (part_of size mem b) ≡ size
-part_full size mem b h = simp (length-take, length-drop) (omega arith)
+use Rattle.devices.specs.Sane.{part_full}
+use Rattle.devices.proofs.Rows.{over_whole}
 
 pub at_part : {X : Type 0} (size : ℕ) (xs : List X) (i j : ℕ) (d : X) → j < size → get_or (part_of size xs i) j d ≡ get_or xs (i * size + j) d
 at_part size xs i j d h = get_or-take size (drop (i * size) xs) j d h ∙ get_or-drop (i * size) xs j d
@@ -65,3 +65,24 @@ module _ {X : Type 0} (size : ℕ) (mem ys : List X) (b o : ℕ) (inside : o + l
       ∙ (sym (at_part size mem b j d l) ∙ sym (over_above (part_of size mem b) o ys f j d past)))
       (cases_lt j (o + length ys)))
       (cases_lt j o))
+
+  -- the blocks, one of which is changed
+  pub part_over : (i : ℕ) → part_of size (over mem (b * size + o) ys) i ≡ with_at (part_of size mem) b (over (part_of size mem b) o ys) i
+  part_over i =
+      by_place (λ v. part_of size (over mem (b * size + o) ys) i ≡ cond v (over (part_of size mem b) o ys) (part_of size mem i)) i b
+      (λ e. rw e part_same)
+      (part_other i)
+
+  pub over_long : length (over mem (b * size + o) ys) ≡ length mem
+  over_long = over_length mem (b * size + o) ys within
+
+-- a whole block laid anew
+module _ {X : Type 0} (size : ℕ) (mem ys : List X) (b : ℕ) (long : length ys ≡ size) (fits : b * size + size ≤ length mem) where
+  pub part_anew : (i : ℕ) → part_of size (over mem (b * size) ys) i ≡ with_at (part_of size mem) b ys i
+  part_anew i =
+      ap (λ n. part_of size (over mem n ys) i) (sym (add-zero (b * size)))
+      ∙ (part_over size mem ys b 0 (omega arith) fits i
+      ∙ ap (λ l. with_at (part_of size mem) b l i) (over_whole (part_of size mem b) ys (long ∙ sym (part_full size mem b fits))))
+
+  pub anew_long : length (over mem (b * size) ys) ≡ length mem
+  anew_long = over_length mem (b * size) ys (omega arith)

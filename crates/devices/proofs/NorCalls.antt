@@ -1,75 +1,69 @@
--- What the code of a NOR chip does to its memory is what is meant.
-use Rattle.std.proofs.Common.{◌≡◌, ℕ, ◌+◌, ◌-◌, ◌*◌, ◌/◌, ◌≤◌, List, ◌++◌, length, take, drop, replicate, Some, None, Ok, Err, sym, ap, ◌∙◌, arith, length-drop, length-take}
-use lib.ListN.{length-map, length-replicate}
-use borrow.Rule.Slice.PartMut.{put_mid}
+-- What the code of a NOR chip finds and does is what is meant.
+use Rattle.std.proofs.Common.{◌≡◌, ℕ, ◌+◌, ◌*◌, ◌/◌, List, length, take, drop, Ok, Err, sym, refl, ap, ◌∙◌}
 use Rattle.flash.specs.declared.refusal.Refusal.{Refusal}
-use Rattle.flash.specs.declared.refusal.Refusal.TheVariants.{NoPower}
-use Rattle.flash.specs.Refused.{program_refusal, erase_refusal}
-use Rattle.devices.specs.declared.supply.Cut.{Cut}
+use Rattle.flash.specs.Cells.{cells}
+use Rattle.flash.specs.Refused.{place_refusal, program_refusal}
+use Rattle.flash.specs.Rules as rules
+use Rattle.flash.specs.Rules.{answered, Fetched}
+use Rattle.flash.proofs.Refusals.{refused_as, not_refused, read_by_place, read_past_place}
 use Rattle.devices.specs.declared.supply.Supply.{Supply}
-use Rattle.devices.specs.declared.supply.Supply.TheVariants.{Off}
-use Rattle.devices.specs.Steps.{spent}
-use Rattle.devices.specs.Memory.{ored, outcome}
+use Rattle.devices.specs.Steps.{Done, spent, taken, left_by}
+use Rattle.devices.specs.Memory.{part_of, laid, wiped, Within}
+use Rattle.devices.specs.Bank.{placed, chip, outcome}
 use Rattle.devices.specs.Nor.{SIZE, nor, nor_program, nor_erase}
-use Rattle.devices.proofs.Cuts.{cut_run_is, cut_run_long}
-use Rattle.devices.proofs.Rows.{put_over}
-use Rattle.devices.proofs.Supplies.{cut_before}
+use Rattle.devices.proofs.Meets.{answer_of, after_is, unless_refused, unless_not}
+use Rattle.devices.proofs.Rows.{in_block, readable_cells, part_cells}
+
+-- size is that of a block, as the bank has it
+pub placed_is : (mem : List ℕ) (s : Supply) (b o n size : ℕ) → size ≡ 4096 → place_refusal (nor mem s) b o n ≡ placed size (length mem) s b o n
+unfolding nor chip place_refusal SIZE
+placed_is mem s b o n size e = rw e
 
 -- ─── program ───
 
-module _ (mem : List ℕ) (s : Supply) (b o : ℕ) (run : List ℕ) where
-  pub lay_refused : (e : Refusal) → program_refusal (nor mem s) b o (length run) ≡ Some e → outcome (Err e) mem s ≡ nor_program mem s b o run
+module _ (mem : List ℕ) (s : Supply) (b o : ℕ) (run : List ℕ) (k : ℕ) where
+  pub program_refused : (e : Refusal) → Err e ≡ answered (program_refusal (nor mem s) b o (length run)) k → outcome (Err e) mem s ≡ nor_program mem s b o run
   unfolding nor_program
-  lay_refused e h = rw h
+  program_refused e h = unless_refused _ k mem s _ e h
 
-  module _ (from : ℕ) (none : program_refusal (nor mem s) b o (length run) ≡ None) (is : from ≡ b * 4096 + o) where
-    pub lay_done : (s' : Supply) (ys : List ℕ) → Ok s' ≡ spent s (length run / 4) → ys ≡ run
-        → outcome (Ok tt) (put_mid from (from + length run - from) mem ys) s' ≡ nor_program mem s b o run
-    unfolding nor_program SIZE
-    lay_done s' ys h e =
-        let k : length ys ≡ from + length run - from = ap length e ∙ omega arith in
-        rw (none, ← h) (ap (λ (m : List ℕ). outcome (Ok tt) m s') (put_over from (from + length run - from) mem ys k ∙ rw (e, is)))
-
-    pub lay_cut : (c : Cut) (ys bs : List ℕ) (end : ℕ) → Err c ≡ spent s (length run / 4) → end ≡ (c.after + 1) * 4
-        → bs ≡ take end run → ys ≡ take (length bs - 4) bs ++ ored c.fault (drop (length bs - 4) bs)
-        → outcome (Err NoPower) (put_mid from (from + end - from) mem ys) Off ≡ nor_program mem s b o run
-    unfolding nor_program SIZE
-    lay_cut c ys bs end h ee eb ey =
-        let e4 : end ≡ c.after * 4 + 4 = omega arith in
-        let le : c.after * 4 + 4 ≤ length run = omega (arith, cut_before s (length run / 4) c h) in
-        let is_cut = cut_run_is 4 c run le ys bs end e4 eb ey in
-        let long : length ys ≡ from + end - from = ap length is_cut ∙ (cut_run_long 4 c run le ∙ omega arith) in
-        rw (none, ← h) (ap (λ (m : List ℕ). outcome (Err NoPower) m Off) (put_over from (from + end - from) mem ys long ∙ rw (is_cut, is)))
+  -- page is the bytes of one, as the bank has it
+  pub programmed_is : (from page : ℕ) → Ok from ≡ answered (program_refusal (nor mem s) b o (length run)) k → from ≡ b * 4096 + o → page ≡ 4
+      → (d : Done) (mem' : List ℕ) (s' : Supply) → d ≡ taken (spent s (length run / page)) → s' ≡ left_by (spent s (length run / page)) → mem' ≡ laid page mem from run d
+      → outcome (answer_of d) mem' s' ≡ nor_program mem s b o run
+  unfolding nor_program SIZE
+  programmed_is from page h is four d mem' s' t l m =
+      unless_not _ k mem s _ from _ h
+      (after_is (laid 4 mem (b * 4096 + o) run) (spent s (length run / 4)) s' mem' d
+      (l ∙ ap (λ n. left_by (spent s (length run / n))) four) (t ∙ ap (λ n. taken (spent s (length run / n))) four) (m ∙ (λ i. laid (four i) mem (is i) run d)))
 
 -- ─── erase ───
 
-module _ (mem : List ℕ) (s : Supply) (b : ℕ) where
-  pub clear_refused : (e : Refusal) → erase_refusal (nor mem s) b ≡ Some e → outcome (Err e) mem s ≡ nor_erase mem s b
+module _ (mem : List ℕ) (s : Supply) (b k size : ℕ) (is : size ≡ 4096) where
+  pub erase_refused : (e : Refusal) → Err e ≡ answered (placed size (length mem) s b 0 0) k → outcome (Err e) mem s ≡ nor_erase mem s b
   unfolding nor_erase
-  clear_refused e h = rw h
+  erase_refused e h = unless_refused (place_refusal (nor mem s) b 0 0) k mem s _ e (rw (placed_is mem s b 0 0 size is) h)
 
-  module _ (from : ℕ) (none : erase_refusal (nor mem s) b ≡ None) (is : from ≡ b * 4096 + 0) (fits : b * 4096 + 4096 ≤ length mem) where
-    size_is : from + 4096 - from ≡ 4096
-    size_is = omega arith
+  pub erased_is : (from : ℕ) → Ok from ≡ answered (placed size (length mem) s b 0 0) k
+      → (d : Done) (mem' : List ℕ) (s' : Supply) → d ≡ taken (spent s 1) → s' ≡ left_by (spent s 1) → mem' ≡ wiped size mem b d
+      → outcome (answer_of d) mem' s' ≡ nor_erase mem s b
+  unfolding nor_erase SIZE
+  erased_is from h d mem' s' t l m =
+      unless_not (place_refusal (nor mem s) b 0 0) k mem s _ from _ (rw (placed_is mem s b 0 0 size is) h)
+      (after_is (wiped 4096 mem b) (spent s 1) s' mem' d l t (m ∙ ap (λ n. wiped n mem b d) is))
 
-    part_long : length (take 4096 (drop from mem)) ≡ 4096
-    part_long = simp (length-take, length-drop) (omega arith)
+-- ─── read ───
 
-    from_is : from ≡ b * 4096
-    from_is = omega arith
+module _ (mem : List ℕ) (s : Supply) (b o : ℕ) (old : List ℕ) (k size : ℕ) (is : size ≡ 4096) where
+  pub fetch_refused : (e : Refusal) → Err e ≡ answered (placed size (length mem) s b o (length old)) k → Fetched (nor mem s) b o old (Err e) old
+  fetch_refused e h =
+      rules.Fetched.refused e (read_by_place (nor mem s) b o (length old) e (placed_is mem s b o (length old) size is ∙ refused_as _ k e h)) refl refl
 
-    pub clear_done : (s' : Supply) (ys : List ℕ) → Ok s' ≡ spent s 1 → ys ≡ replicate (length (take (from + 4096 - from) (drop from mem))) 255
-        → outcome (Ok tt) (put_mid from (from + 4096 - from) mem ys) s' ≡ nor_erase mem s b
-    unfolding nor_erase SIZE
-    clear_done s' ys h e =
-        let blank : ys ≡ replicate 4096 255 = e ∙ ap (λ n. replicate n 255) (ap (λ n. length (take n (drop from mem))) size_is ∙ part_long) in
-        let long : length ys ≡ from + 4096 - from = ap length blank ∙ (length-replicate {A = ℕ} 4096 255 ∙ sym size_is) in
-        rw (none, ← h) (ap (λ (m : List ℕ). outcome (Ok tt) m s') (put_over from (from + 4096 - from) mem ys long ∙ rw (blank, from_is)))
-
-    pub clear_cut : (c : Cut) (ys : List ℕ) → Err c ≡ spent s 1 → ys ≡ ored c.fault (take (from + 4096 - from) (drop from mem))
-        → outcome (Err NoPower) (put_mid from (from + 4096 - from) mem ys) Off ≡ nor_erase mem s b
-    unfolding nor_erase SIZE
-    clear_cut c ys h e =
-        let spoilt : ys ≡ ored c.fault (take 4096 (drop from mem)) = e ∙ ap (λ n. ored c.fault (take n (drop from mem))) size_is in
-        let long : length ys ≡ from + 4096 - from = ap length spoilt ∙ (length-map _ _ ∙ (part_long ∙ sym size_is)) in
-        rw (none, ← h) (ap (λ (m : List ℕ). outcome (Err NoPower) m Off) (put_over from (from + 4096 - from) mem ys long ∙ rw (spoilt, from_is)))
+  pub fetch_done : (from : ℕ) (new : List ℕ) → Ok from ≡ answered (placed size (length mem) s b o (length old)) k → Within size (length mem) b o (length old) from
+      → new ≡ take (length old) (drop from mem) → Fetched (nor mem s) b o old (Ok tt) new
+  unfolding nor chip SIZE
+  fetch_done from new h w e =
+      let none = placed_is mem s b o (length old) size is ∙ not_refused _ k from h in
+      let q = part_cells (part_of 4096 mem b) o (length old) in
+      rules.Fetched.done
+      (read_past_place (nor mem s) b o (length old) none ∙ rw (q, readable_cells (take (length old) (drop o (part_of 4096 mem b))))) refl
+      (ap cells (e ∙ (ap (λ n. take (length old) (drop n mem)) w.0 ∙ (in_block size mem b o (length old) w.1 ∙ ap (λ n. take (length old) (drop o (part_of n mem b))) is))) ∙ sym q)

@@ -1,17 +1,16 @@
--- The mark of a block once a run was laid behind what it held.
+-- The mark of a block of a NOR chip, also once a run was laid behind what it held.
 use Rattle.std.proofs.Common.{◌≡◌, ℕ, ◌+◌, ◌%◌, ◌≤◌, eqb, List, length, replicate, refl, arith}
+use Rattle.std.specs.Int.{next_multiple_of}
 use Rattle.flash.specs.Cells.{over}
-use Rattle.devices.specs.Memory.{used}
+use Rattle.flash.specs.Extent.{used}
+use Rattle.flash.proofs.Extents.{extent_empty, extent_rises, extent_within_run}
 use Rattle.devices.specs.Nor.{mark_of}
-use Rattle.devices.proofs.Extents.{extent_empty, extent_rises, extent_within_run}
+use Rattle.devices.specs.Sane.{mark_high}
 
-pub used_mark : (xs : List ℕ) → used xs ≤ mark_of xs
+-- how far bytes reach, up to the end of the page
+pub mark_is : (xs : List ℕ) (m n : ℕ) → n ≡ used xs → m ≡ next_multiple_of n 4 → m ≡ mark_of xs
 unfolding mark_of
-used_mark xs = omega arith
-
-pub mark_high : (xs : List ℕ) (e : ℕ) → e % 4 ≡ 0 → used xs ≤ e → mark_of xs ≤ e
-unfolding mark_of
-mark_high xs e p h = omega arith
+mark_is xs m n e h = omega (arith, e, h)
 
 mark_low : (xs ys : List ℕ) → used xs ≤ used ys → mark_of xs ≤ mark_of ys
 unfolding mark_of

@@ -1,11 +1,10 @@
--- Rows of bytes and of cells, with others laid over them; and a meaning that is changed in one block.
-use Rattle.std.proofs.Common.{◌≡◌, ℕ, zero, suc, ◌+◌, ◌-◌, ◌*◌, ◌<◌, ◌≤◌, true, List, [], ◌∷◌, ◌++◌, length, get_or, take, drop, replicate, sym, refl, ap, ◌∙◌, append_assoc, append-nil, arith, length-append, take-append-drop, length-take}
+-- Rows of bytes and of cells, with others laid over them.
+use Rattle.std.proofs.Common.{◌≡◌, ℕ, zero, suc, ◌+◌, ◌-◌, ◌*◌, ◌≤◌, true, List, [], ◌∷◌, ◌++◌, length, take, drop, replicate, sym, refl, ap, ◌∙◌, append_assoc, append-nil, arith, length-append, take-append-drop, length-take}
 use mathlib.Core.List.{map-append}
 use lib.ListN.{length-map}
 use borrow.Rule.Slice.PartMut.{put_mid}
 use Rattle.std.proofs.lemmas.List.{take_at, take-take, drop-take, drop-drop, drop_all, take-map, drop-map}
-use Rattle.flash.specs.Cells.{Cell, byte, lost, cells, blank, over}
-use Rattle.flash.specs.Meaning.{Meaning, Power, with_at}
+use Rattle.flash.specs.Cells.{Cell, byte, cells, blank, over}
 use Rattle.flash.specs.Refused.{readable, part}
 use Rattle.devices.specs.Memory.{part_of}
 
@@ -51,14 +50,6 @@ cut_split {X} xs run sp o w h l =
 
 -- ─── cells ───
 
-pub not_lost : (n : ℕ) → byte n ≡ lost → ⊥
-not_lost n e = let z : ◌≡◌ {A = ℕ} 0 1 = cc in omega arith
-
-pub getD_cells : (xs : List ℕ) (i : ℕ) → i < length xs → get_or (cells xs) i lost ≡ byte (get_or xs i 0)
-getD_cells [] i h = absurd (omega arith)
-getD_cells (x ∷ xs) zero h = refl
-getD_cells (x ∷ xs) (suc i) h = getD_cells xs i (omega arith)
-
 pub cells_over : (xs run : List ℕ) (o : ℕ) → cells (over xs o run) ≡ over (cells xs) o (cells run)
 cells_over xs run o =
     map-append byte (take o xs) _ ∙ (ap (λ (r : List Cell). cells (take o xs) ++ r) (map-append byte run _)
@@ -74,18 +65,3 @@ readable_cells (x ∷ xs) = readable_cells xs
 
 pub part_cells : (xs : List ℕ) (o n : ℕ) → part (cells xs) o n ≡ cells (take n (drop o xs))
 part_cells xs o n = ap (take n) (drop-map byte o xs) ∙ take-map byte n (drop o xs)
-
--- ─── meanings ───
-
--- m, with xs in the block b, k for its mark, and p for the power
-unfoldable pub changed : Meaning → ℕ → List Cell → ℕ → Power → Meaning
-changed m b xs k p = record {
-  blocks = m.blocks;
-  size = m.size;
-  page = m.page;
-  batch = m.batch;
-  shown = with_at m.shown b xs;
-  settled = with_at m.settled b xs;
-  mark = with_at m.mark b k;
-  power = p;
-}

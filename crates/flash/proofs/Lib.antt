@@ -1,6 +1,7 @@
 pub mod Accepting
 pub mod Batches
 pub mod Chain
+pub mod Extents
 pub mod Mixed
 pub mod Over
 pub mod Parts

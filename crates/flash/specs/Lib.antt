@@ -1,5 +1,7 @@
 pub mod Numbers
+pub mod Words
 pub mod Cells
+pub mod Extent
 pub mod Meaning
 pub mod Refused
 pub mod Rules

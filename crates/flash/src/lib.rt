@@ -2,6 +2,7 @@
 // is stored. Start reading at `interface`; specs/Meaning.antt says what a flash is, specs/Rules.antt what its calls do.
 #![tactic(auto)]
 
+pub mod bytes;
 pub mod interface;
 pub mod operation;
 pub mod place;

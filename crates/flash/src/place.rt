@@ -2,14 +2,14 @@
 ghost use Rattle.std.specs.Prelude.{◌≡◌, nat_eq};
 
 // A block and an offset in it, always answered together.
-#[derive(Clone, Copy)]
+#[derive(Clone, Copy, Debug, PartialEq, Eq)]
 pub struct Place {
     pub block: usize,
     pub offset: usize,
 }
 
 // So many blocks of `size` bytes; pages of `page` bytes are programmed, and batches of `batch` bytes settle.
-#[derive(Clone, Copy)]
+#[derive(Clone, Copy, Debug, PartialEq, Eq)]
 pub struct Shape {
     pub blocks: usize,
     pub size: usize,

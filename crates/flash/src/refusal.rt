@@ -1,8 +1,12 @@
 // Why a call was refused. Each case is known by its number, which is its discriminant; docs/REFUSALS.md has the causes.
-ghost use Rattle.std.specs.Prelude.{◌≡◌};
+ghost use Rattle.std.specs.Prelude.{◌≡◌, Some};
 ghost use Rattle.flash.specs.Numbers.{number_of};
+ghost use Rattle.flash.specs.Words.{words_of};
 
-#[derive(Clone, Copy)]
+use std::error::Error;
+use std::fmt;
+
+#[derive(Clone, Copy, Debug, PartialEq, Eq)]
 pub enum Refusal {
     // from the input
     Path = 1,
@@ -29,11 +33,44 @@ pub enum Refusal {
     Unreadable = 28,
 }
 
-impl Refusal {
-    // The number of the refusal.
-    pub fn number(self) -> u8
-        ensures { result ≡ number_of self }
-    {
-        self as u8
+// The number of the refusal.
+impl From<Refusal> for u8 {
+    ghost from_gives = { λ refusal n. n ≡ number_of refusal };
+
+    fn from(refusal: Refusal) -> u8 {
+        refusal as u8
     }
 }
+
+// The cause in words.
+impl fmt::Display for Refusal {
+    ghost output = { λ refusal. Some (words_of refusal) };
+
+    fn fmt<W: fmt::Write>(&self, f: &mut fmt::Formatter<W>) -> fmt::Result {
+        f.write_str(match self {
+            Refusal::Path => "not a path",
+            Refusal::TooLong => "too long",
+            Refusal::Shape => "wrong shape",
+            Refusal::Memory => "not 4 to 16 whole blocks of memory",
+            Refusal::Buffer => "buffer too small",
+            Refusal::Kind => "unknown kind",
+            Refusal::Field => "bad field",
+            Refusal::Conflict => "two nodes of one version differ",
+            Refusal::Outside => "outside the flash",
+            Refusal::NotPages => "not whole pages",
+            Refusal::BelowMark => "below the mark",
+            Refusal::OtherHeld => "another block has bytes held",
+            Refusal::NoPower => "no power",
+            Refusal::Absent => "absent",
+            Refusal::Exists => "exists",
+            Refusal::WrongKind => "wrong kind",
+            Refusal::NotEmpty => "not empty",
+            Refusal::NoSpace => "no space",
+            Refusal::Exhausted => "numbers exhausted",
+            Refusal::NoFull => "no full block",
+            Refusal::Unreadable => "unreadable",
+        })
+    }
+}
+
+impl Error for Refusal {}

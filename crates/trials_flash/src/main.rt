@@ -29,8 +29,8 @@ use command::{Card, Command, fill, parse};
 use devices::nor::Nor;
 use flash::interface::Flash;
 use layers::buffer::WriteBuffer;
-use nand::chip::Nand;
-use nand::pages::NandPage;
+use devices::nand::Nand;
+use devices::pages::NandPage;
 use std::io;
 
 // The most bytes of memory.

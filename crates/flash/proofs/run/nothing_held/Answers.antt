@@ -1,8 +1,6 @@
-use Rattle.flash.proofs.Settled.{same_shape, nothing_held_if}
+use Rattle.flash.proofs.Settled.{nothing_held_if}
 use Rattle.flash.proofs.run.nothing_held.Goals as goal
 
-pub returns : goal.returns
-returns g c = record {
-  value = λ ok. same_shape c.shape.result (g.F.Flash.meaning c.args.flash.now) _ (c.shape.ensures.value ok) c.settles_at_once.ensures;
-  held = λ ok. nothing_held_if c.shape.result (g.F.Flash.meaning c.args.flash.now) _ (c.shape.ensures.value ok) c.settles_at_once.ensures (c.shape.ensures.sane ok);
-}
+pub returns-clause-held : goal.returns-clause-held
+returns-clause-held g c =
+    nothing_held_if c.shape.result _ _ c.shape.ensures c.settles_at_once.ensures (g.met.F.Flash.sane c.args.flash.now)

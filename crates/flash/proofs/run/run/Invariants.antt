@@ -5,5 +5,4 @@ use Rattle.flash.proofs.run.run.Given as goal
 
 abbrev pub invariant-loop-operation : goal.invariant-loop-operation
 invariant-loop-operation g l =
-    g.F.Flash.ok l.initial.flash
-    → g.F.Flash.ok l.flash × Ran (ops_shown (take l.operation-index l.operations)) (g.F.Flash.meaning l.initial.flash) (Ok tt) (g.F.Flash.meaning l.flash)
+    Ran (ops_shown (take l.operation-index l.operations)) (g.F.Flash.meaning l.initial.flash) (Ok tt) (g.F.Flash.meaning l.flash)

@@ -1,43 +1,24 @@
-use Rattle.std.proofs.Common.{◌+◌, ◌*◌, ◌<◌, ◌≤◌, sym, ap, subst}
 use Rattle.std.proofs.lemmas.Result.{err_from_is_err_and}
-use Rattle.flash.specs.Rules.{answered}
-use Rattle.flash.proofs.Refusals.{refused_as, not_refused}
-use Rattle.devices.proofs.NorRefusals.{program_place, program_offset, program_length, program_below, program_none}
+use Rattle.devices.specs.Nor.{nor}
+use Rattle.devices.proofs.Chips.{program_by, program_not, program_may}
+use Rattle.devices.proofs.NorCalls.{placed_is}
 use Rattle.devices.proofs.nor.Nor.locate_blank.Goals as goal
-use Rattle.devices.proofs.nor.Nor.locate_blank.Goals.{then-at-ne0-via-then-at-ne0, then-at-ne0-via-else-at-ne0+then-n-ne0}
 
-pub returns-in_err-from : goal.returns-in_err-from
-returns-in_err-from c =
+pub returns-in_err-from-clause-value : goal.returns-in_err-from-clause-value
+unfolding nor
+returns-in_err-from-clause-value c =
     let p = err_from_is_err_and c.from_residual.result c.from_residual.ensures.1 in
-    let e = sym (refused_as _ _ _ c.in_err-from.ensures.value) in
-    rw (p.1, p.2) (record { value = ap (λ x. answered x (c.args.at.block * 4096 + c.args.at.offset)) (program_place _ _ _ _ _ _ e); within = tt })
+    rw (p.1, p.2) (program_by _ _ _ _ _ _ _ _ _ _ _ (placed_is _ _ _ _ _ _ c.args.self.now.size) _ _ _ c.in_err-from.ensures.value)
 
-pub returns-then-at-ne0 : goal.returns-then-at-ne0
-returns-then-at-ne0 c =
-    let none = sym (not_refused _ _ _ c.in_ok-from.ensures.value) in
-    record {
-      value = ap (λ x. answered x (c.args.at.block * 4096 + c.args.at.offset)) (elim c.then-at-ne0.branch [
-        | then-at-ne0-via-then-at-ne0 w ↦ program_offset _ _ _ _ _ none w.if-at-ne0.true
-        | then-at-ne0-via-else-at-ne0+then-n-ne0 w ↦ program_length _ _ _ _ _ none w.if-at-ne0.false w.if-n-ne0.true
-      ]);
-      within = tt;
-    }
+pub returns-in_err-allow-clause-value : goal.returns-in_err-allow-clause-value
+unfolding nor
+returns-in_err-allow-clause-value c =
+    let p = err_from_is_err_and c.from_residual-in_err-allow.result c.from_residual-in_err-allow.ensures.1 in
+    rw (p.1, p.2) (program_not _ _ _ _ _ _ _ _ _ _ _ (placed_is _ _ _ _ _ _ c.args.self.now.size) _ _ c.in_ok-from.ensures.value _ _ c.args.self.now.page c.mark_of.ensures _ _ c.in_err-allow.ensures)
 
-pub returns-then-at-mark_of : goal.returns-then-at-mark_of
-returns-then-at-mark_of c =
-    let none = sym (not_refused _ _ _ c.in_ok-from.ensures.value) in
-    record {
-      value = ap (λ x. answered x (c.args.at.block * 4096 + c.args.at.offset)) (program_below _ _ _ _ _ none c.if-at-ne0.false c.if-n-ne0.false
-          (subst (λ m. c.args.at.offset < m) c.mark_of.ensures c.if-at-mark_of.true));
-      within = tt;
-    }
-
-pub returns : goal.returns
-returns c =
-    let none = sym (not_refused _ _ _ c.in_ok-from.ensures.value) in
-    let w = c.in_ok-from.ensures.within in
-    record {
-      value = rw w.0 (ap (λ x. answered x (c.args.at.block * 4096 + c.args.at.offset)) (program_none _ _ _ _ _ none c.if-at-ne0.false c.if-n-ne0.false
-          (subst (λ m. m ≤ c.args.at.offset) c.mark_of.ensures c.if-at-mark_of.false)));
-      within = w;
-    }
+pub returns-clause-value : goal.returns-clause-value
+unfolding nor
+returns-clause-value c =
+    let w = c.in_ok-from.ensures in
+    rw (w.within.0, c.args.self.now.size)
+    (program_may _ _ _ _ _ _ _ _ _ _ _ (placed_is _ _ _ _ _ _ c.args.self.now.size) _ _ w.value _ _ c.args.self.now.page c.mark_of.ensures _ c.in_ok-allow.ensures)

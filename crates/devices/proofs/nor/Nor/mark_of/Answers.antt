@@ -1,9 +1,13 @@
-use Rattle.std.proofs.Common.{◌∙◌}
-use Rattle.devices.proofs.NorRefusals.{mark_is, reach_small}
+use Rattle.std.proofs.Common.{ap, ◌∙◌}
+use Rattle.flash.specs.Extent.{used}
+use Rattle.devices.specs.Memory.{part_of}
+use Rattle.devices.specs.Nor.{SIZE}
+use Rattle.devices.proofs.NorMarks.{mark_is}
 use Rattle.devices.proofs.nor.Nor.mark_of.Goals as goal
 
-pub page_end-requires : goal.page_end-requires
-page_end-requires c = reach_small c.args.self.now.memory.now c.args.block c.reach.result c.reach.ensures
-
 pub returns : goal.returns
-returns c = c.page_end.ensures ∙ mark_is c.args.self.now.memory.now c.args.block c.reach.result c.reach.ensures
+unfolding SIZE
+returns c =
+    mark_is (part_of SIZE c.args.self.now.bank.memory.now c.args.block) _ c.reach.result
+    (c.reach.ensures.value ∙ ap used (c.block.ensures ∙ ap (λ n. part_of n c.args.self.now.bank.memory.now c.args.block) c.args.self.now.size))
+    c.next_multiple_of.ensures.value

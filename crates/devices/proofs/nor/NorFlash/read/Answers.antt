@@ -1,14 +1,13 @@
 use Rattle.std.proofs.lemmas.Result.{err_from_is_err_and}
-use Rattle.flash.proofs.Refusals.{refused_as, not_refused}
-use Rattle.devices.proofs.NorLooks.{fetch_refused, fetch_done}
+use Rattle.devices.proofs.NorCalls.{fetch_refused, fetch_done}
 use Rattle.devices.proofs.nor.NorFlash.read.Goals as goal
 
 pub returns-in_err-from : goal.returns-in_err-from
-returns-in_err-from c = λ _.
+returns-in_err-from c =
     let p = err_from_is_err_and c.from_residual.result c.from_residual.ensures.1 in
-    rw (p.1, p.2) (fetch_refused _ _ _ _ _ _ (refused_as _ _ _ c.in_err-from.ensures.value))
+    rw (p.1, p.2) (fetch_refused _ _ _ _ _ _ _ c.args.self.now.size _ c.in_err-from.ensures.value)
 
 pub returns : goal.returns
-returns c = λ _.
+returns c =
     let w = c.in_ok-from.ensures in
-    fetch_done _ _ _ _ _ _ c.copy_from_slice.new.self (not_refused _ _ _ w.value) w.within.0 c.copy_from_slice.ensures.after
+    fetch_done _ _ _ _ _ _ _ c.args.self.now.size _ c.fetch.new.out w.value w.within c.fetch.ensures

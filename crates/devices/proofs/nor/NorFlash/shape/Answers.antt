@@ -1,8 +1,11 @@
-use Rattle.std.proofs.Common.{refl}
-use Rattle.devices.specs.Nor.{nor, SIZE}
-use Rattle.devices.proofs.NorMeaning.{nor_sane}
+use Rattle.std.proofs.Common.{length, ap, ◌∙◌}
+use Rattle.devices.specs.Bank.{blocks_in, chip}
+use Rattle.devices.specs.Nor.{SIZE, nor}
 use Rattle.devices.proofs.nor.NorFlash.shape.Goals as goal
 
 pub returns : goal.returns
-unfolding nor SIZE
-returns c = record { value = λ _. (c.blocks-2.ensures, refl, refl, refl); sane = λ _. nor_sane _ _ }
+unfolding nor chip SIZE
+returns c =
+    let self = c.args.self.now in
+    let s = c.shape.ensures in
+    (s.blocks ∙ ap (λ n. blocks_in n (length self.bank.memory.now)) self.size, s.size ∙ self.size, s.pages.0 ∙ self.page, s.pages.1 ∙ self.page)

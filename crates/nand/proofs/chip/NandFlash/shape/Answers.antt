@@ -1,7 +1,0 @@
-use Rattle.nand.specs.Nand.{nand}
-use Rattle.nand.proofs.NandAnswers.{sane}
-use Rattle.nand.proofs.chip.NandFlash.shape.Goals as goal
-
-pub returns : goal.returns
-unfolding nand
-returns c = record { value = λ _. (c.blocks-2.ensures, c.block.ensures.value, c.bytes.ensures.value, c.bytes-2.ensures.value); sane = λ _. sane _ _ _ _ }

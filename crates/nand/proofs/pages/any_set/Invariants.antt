@@ -1,6 +1,0 @@
-use Rattle.std.proofs.Common.{◌≡◌, drop}
-use Rattle.nand.specs.Pages.{any}
-use Rattle.nand.proofs.pages.any_set.Given as goal
-
-abbrev pub invariant-loop-x : goal.invariant-loop-x
-invariant-loop-x l = any (drop l.x-index l.flags) ≡ any l.flags
