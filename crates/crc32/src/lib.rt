@@ -68,9 +68,5 @@ fn step(c: u32, b: u8) -> u32
 pub fn sum_of(bytes: &[u8]) -> u32
     ensures { result ≡ sum bytes.now }
 {
-    let mut c = 0;
-    for b in bytes {
-        c = step(c, *b);
-    }
-    c
+    bytes.iter().fold(0, |c, b| step(c, *b))
 }

@@ -1,16 +1,17 @@
 -- Contents made from their fields pass, and are read as these fields.
-use Rattle.std.proofs.Common.{◌≡◌, ℕ, ◌+◌, ◌^◌, ◌<◌, ◌≤◌, true, eqb, leb, List, [], ◌∷◌, ◌++◌, length, take, drop, sym, refl, ap, ◌∙◌, arith}
+use Rattle.std.proofs.Common.{◌≡◌, ℕ, ◌+◌, ◌^◌, ◌<◌, ◌≤◌, true, List, [], ◌∷◌, ◌++◌, length, take, drop, refl, ap, ◌∙◌, arith}
 use Rattle.std.proofs.lemmas.List.{take_all}
-use Rattle.std.proofs.lemmas.Bool.{eq-eqb, le-leb}
+use Rattle.std.proofs.lemmas.Bool.Decides.{nat_tests}
 use Rattle.crc32.specs.Sum.{sum}
 use Rattle.nodes.specs.Fields.{le32, bytes32, padded, all}
 use Rattle.nodes.specs.Items.{size, totlen, content, csize, payload}
 use Rattle.nodes.specs.Records.{Content, read_content}
-use Rattle.encode.specs.Encode.{Bytes, head, head8, ContentFits, content60, content_item}
+use Rattle.encode.specs.Encode.{spread, head, head8, ContentFits, content60, content_item}
 use Rattle.encode.specs.Laid.{WellFormed}
+use Rattle.encode.specs.Node.{node_item, content_words, content_sums}
 use Rattle.encode.specs.Laws.{ContentTrip, ContentTrips}
-use Rattle.encode.proofs.Sums.{sum_fits, digits, bytes_append}
-use Rattle.encode.proofs.Headers.{head_word, head_kind, head_totlen, head_size, head_passes, content_passes, content_reach, three}
+use Rattle.encode.proofs.Sums.{sum_fits, digits, low_byte}
+use Rattle.encode.proofs.Headers.{Headed, headed, front_sum, content_passes, content_reach}
 
 module _ (x : Content) where
   abbrev behind : List ℕ
@@ -27,23 +28,27 @@ module _ (x : Content) where
   unfolding content_item content60 head head8
   content_length = omega arith
 
+  content_headed : length x.payload ≤ 512 → Headed 0xE002 (68 + length x.payload) (content_item x)
+  content_headed h = headed 0xE002 (68 + length x.payload) (content_item x) behind content_is (omega arith) (omega arith)
+
   pub content_size : length x.payload ≤ 512 → size (content_item x) ≡ padded (68 + length x.payload)
-  content_size h = head_size 0xE002 (68 + length x.payload) (content_item x) behind content_is (omega arith) (omega arith)
+  content_size h = (content_headed h).sized
 
   content_held : drop 68 (content_item x) ≡ x.payload
   unfolding content_item content60 head head8
   content_held = refl
 
-module _ (x : Content) (f : ContentFits x) (summed : sum x.payload < 2 ^ 32) where
-  content60_bytes : Bytes (content60 x)
-  unfolding content60 head head8
-  content60_bytes =
-      let t = f.compr in
-      let a : List ℕ = head 0xE002 (68 + length x.payload) ++ (bytes32 x.ino ++ (bytes32 x.version ++ (bytes32 x.mode ++ bytes32 0))) in
-      let b : List ℕ =
-      bytes32 x.isize ++ (bytes32 0 ++ (bytes32 0 ++ (bytes32 0 ++ (bytes32 x.offset ++ (bytes32 (length x.payload) ++ (bytes32 x.dsize ++ (x.compr ∷ 0 ∷ 0 ∷ 0 ∷ []))))))) in
-      bytes_append a b (omega arith) (omega arith)
+-- the fixed part and the item, as a node has them
+module _ (x : Content) (f : ContentFits x) where
+  content_fixed : content60 x ≡ head 0xE002 (68 + length x.payload) ++ spread (content_words x (length x.payload))
+  unfolding content60 spread
+  content_fixed = cc (low_byte x.compr f.compr)
 
+  pub content_made : content_item x ≡ node_item 0xE002 (68 + length x.payload) (content_words x (length x.payload)) content_sums x.payload
+  unfolding content_item spread
+  content_made = cc content_fixed
+
+module _ (x : Content) (f : ContentFits x) (summed : sum x.payload < 2 ^ 32) where
   content_csize : csize (content_item x) ≡ length x.payload
   unfolding content_item content60 head head8 le32
   content_csize = digits (length x.payload) (let h = f.short in omega arith)
@@ -55,31 +60,23 @@ module _ (x : Content) (f : ContentFits x) (summed : sum x.payload < 2 ^ 32) whe
 
   content_sum : le32 (content_item x) 64 ≡ sum (take 60 (content_item x))
   unfolding content_item content60 head head8 le32
-  content_sum = digits (sum (content60 x)) (sum_fits (content60 x) content60_bytes)
+  content_sum = digits (sum (content60 x)) (rw (content_fixed x f) (front_sum 0xE002 (68 + length x.payload) (content_words x (length x.payload))))
 
   payload_sum : le32 (content_item x) 60 ≡ sum x.payload
   unfolding content_item content60 head head8 le32
   payload_sum = digits (sum x.payload) summed
 
   content_tests : totlen (content_item x) ≡ 68 + length x.payload → all (content (content_item x)) ≡ true
-  content_tests t =
-      let n = content_csize in
-      three (leb (68 + csize (content_item x)) (totlen (content_item x))) (eqb (le32 (content_item x) 60) (sum (payload (content_item x)))) (eqb (le32 (content_item x) 64) (sum (take 60 (content_item x))))
-      (le-leb _ _ (omega arith)) (eq-eqb _ _ (payload_sum ∙ ap sum (sym content_payload))) (eq-eqb _ _ content_sum)
+  content_tests t = grind (arith, nat_tests, content_csize, content_sum, payload_sum, ap sum content_payload)
 
   content_well : WellFormed (content_item x)
   content_well =
-      let h = f.short in
-      let n = 68 + length x.payload in
       let it = content_item x in
-      let fits : n < 2 ^ 32 = omega arith in
+      let h = content_headed x f.short in
       let l = content_length x in
-      let t = head_totlen 0xE002 n it (behind x) (content_is x) (omega arith) fits in
-      let w = head_word 0xE002 n it (behind x) (content_is x) (omega arith) fits in
-      let k = head_kind 0xE002 n it (behind x) (content_is x) (omega arith) fits in
-      let p = head_passes 0xE002 n it (behind x) (content_is x) (omega arith) fits (omega arith) in
-      let r = content_reach it w k in
-      (omega arith, content_passes (size it) it w p k (content_tests t))
+      let r = content_reach it h.word h.kind_is in
+      let t = h.total in
+      (omega arith, content_passes (size it) it h.word (h.good (omega arith)) h.kind_is (content_tests t))
 
   content_read : read_content (content_item x) ≡ x
   unfolding read_content content_item content60 head head8 le32

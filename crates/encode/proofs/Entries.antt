@@ -1,16 +1,17 @@
 -- Entries made from their fields pass, and are read as these fields.
-use Rattle.std.proofs.Common.{◌≡◌, ℕ, ◌+◌, ◌^◌, ◌<◌, ◌≤◌, true, eqb, leb, List, [], ◌∷◌, ◌++◌, length, take, sym, refl, ap, ◌∙◌, arith}
+use Rattle.std.proofs.Common.{◌≡◌, ℕ, ◌+◌, ◌^◌, ◌<◌, ◌≤◌, true, List, [], ◌∷◌, ◌++◌, length, take, refl, ap, arith}
 use Rattle.std.proofs.lemmas.List.{take_all}
-use Rattle.std.proofs.lemmas.Bool.{eq-eqb, le-leb}
+use Rattle.std.proofs.lemmas.Bool.Decides.{nat_tests}
 use Rattle.crc32.specs.Sum.{sum}
 use Rattle.nodes.specs.Fields.{le32, bytes32, padded, all}
 use Rattle.nodes.specs.Items.{size, totlen, entry, nsize, name}
 use Rattle.nodes.specs.Records.{Entry, read_entry}
-use Rattle.encode.specs.Encode.{Bytes, head, head8, EntryFits, entry32, entry_item}
+use Rattle.encode.specs.Encode.{spread, head, head8, EntryFits, entry32, entry_item}
 use Rattle.encode.specs.Laid.{WellFormed}
+use Rattle.encode.specs.Node.{node_item, entry_words, entry_sums}
 use Rattle.encode.specs.Laws.{EntryTrip, EntryTrips}
-use Rattle.encode.proofs.Sums.{sum_fits, digits}
-use Rattle.encode.proofs.Headers.{head_word, head_kind, head_totlen, head_size, head_passes, entry_passes, entry_reach, three}
+use Rattle.encode.proofs.Sums.{sum_fits, digits, low_bytes}
+use Rattle.encode.proofs.Headers.{Headed, headed, front_sum, entry_passes, entry_reach}
 
 module _ (x : Entry) where
   abbrev behind : List ℕ
@@ -26,8 +27,11 @@ module _ (x : Entry) where
   unfolding entry_item entry32 head head8
   entry_length = omega arith
 
+  entry_headed : length x.name ≤ 32 → Headed 0xE001 (40 + length x.name) (entry_item x)
+  entry_headed h = headed 0xE001 (40 + length x.name) (entry_item x) behind entry_is (omega arith) (omega arith)
+
   pub entry_size : length x.name ≤ 32 → size (entry_item x) ≡ padded (40 + length x.name)
-  entry_size h = head_size 0xE001 (40 + length x.name) (entry_item x) behind entry_is (omega arith) (omega arith)
+  entry_size h = (entry_headed h).sized
 
   entry_name : name (entry_item x) ≡ x.name
   unfolding entry_item entry32 head head8
@@ -37,41 +41,36 @@ module _ (x : Entry) where
   unfolding entry_item entry32 head head8
   entry_nsize = refl
 
-module _ (x : Entry) (f : EntryFits x) (summed : sum x.name < 2 ^ 32) where
-  entry32_bytes : Bytes (entry32 x)
-  unfolding entry32 head head8
-  entry32_bytes =
-      let s = f.short in
-      let t = f.dtype in
-      omega arith
+-- the fixed part and the item, as a node has them
+module _ (x : Entry) (f : EntryFits x) where
+  entry_fixed : entry32 x ≡ head 0xE001 (40 + length x.name) ++ spread (entry_words x (length x.name))
+  unfolding entry32 spread
+  entry_fixed = let h = f.short in cc (low_bytes (length x.name) x.dtype (omega arith) f.dtype)
 
+  pub entry_made : entry_item x ≡ node_item 0xE001 (40 + length x.name) (entry_words x (length x.name)) entry_sums x.name
+  unfolding entry_item spread
+  entry_made = cc entry_fixed
+
+module _ (x : Entry) (f : EntryFits x) (summed : sum x.name < 2 ^ 32) where
   entry_sum : le32 (entry_item x) 32 ≡ sum (take 32 (entry_item x))
   unfolding entry_item entry32 head head8 le32
-  entry_sum = digits (sum (entry32 x)) (sum_fits (entry32 x) entry32_bytes)
+  entry_sum = digits (sum (entry32 x)) (rw (entry_fixed x f) (front_sum 0xE001 (40 + length x.name) (entry_words x (length x.name))))
 
   name_sum : le32 (entry_item x) 36 ≡ sum x.name
   unfolding entry_item entry32 head head8 le32
   name_sum = digits (sum x.name) summed
 
   entry_tests : totlen (entry_item x) ≡ 40 + length x.name → all (entry (entry_item x)) ≡ true
-  entry_tests t =
-      let n = entry_nsize x in
-      three (leb (40 + nsize (entry_item x)) (totlen (entry_item x))) (eqb (le32 (entry_item x) 32) (sum (take 32 (entry_item x)))) (eqb (le32 (entry_item x) 36) (sum (name (entry_item x))))
-      (le-leb _ _ (omega arith)) (eq-eqb _ _ entry_sum) (eq-eqb _ _ (name_sum ∙ ap sum (sym (entry_name x))))
+  entry_tests t = grind (arith, nat_tests, entry_nsize x, entry_sum, name_sum, ap sum (entry_name x))
 
   entry_well : WellFormed (entry_item x)
   entry_well =
-      let h = f.short in
-      let n = 40 + length x.name in
       let it = entry_item x in
-      let fits : n < 2 ^ 32 = omega arith in
+      let h = entry_headed x f.short in
       let l = entry_length x in
-      let t = head_totlen 0xE001 n it (behind x) (entry_is x) (omega arith) fits in
-      let w = head_word 0xE001 n it (behind x) (entry_is x) (omega arith) fits in
-      let k = head_kind 0xE001 n it (behind x) (entry_is x) (omega arith) fits in
-      let p = head_passes 0xE001 n it (behind x) (entry_is x) (omega arith) fits (omega arith) in
-      let r = entry_reach it w k in
-      (omega arith, entry_passes (size it) it w p k (entry_tests t))
+      let r = entry_reach it h.word h.kind_is in
+      let t = h.total in
+      (omega arith, entry_passes (size it) it h.word (h.good (omega arith)) h.kind_is (entry_tests t))
 
   entry_read : read_entry (entry_item x) ≡ x
   unfolding read_entry entry_item entry32 head head8 le32

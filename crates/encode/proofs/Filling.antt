@@ -1,16 +1,13 @@
 -- What fills a number of bytes.
-use Rattle.std.proofs.Common.{◌≡◌, ℕ, zero, suc, ◌-◌, ◌*◌, ◌/◌, ◌%◌, ◌^◌, ◌<◌, ◌≤◌, Bool, true, false, cond, eqb, ltb, leb, List, [], ◌∷◌, ◌++◌, length, drop, replicate, Some, None, sym, refl, ap, ◌∙◌, subst, append_assoc, append-nil, arith}
+use Rattle.std.proofs.Common.{◌≡◌, ℕ, zero, suc, ◌-◌, ◌*◌, ◌/◌, ◌%◌, ◌^◌, ◌<◌, ◌≤◌, Bool, true, false, cond, leb, List, [], ◌∷◌, ◌++◌, length, drop, replicate, sym, refl, ap, ◌∙◌, append_assoc, append-nil, arith}
 use lib.ListN.{length-replicate}
 use Rattle.std.proofs.lemmas.List.{length-append, drop-append-le, drop-replicate}
-use Rattle.std.proofs.lemmas.Bool.{leb-true, cond-true, cond-false, le-leb, lt-leb, eqb-true, ltb-true}
+use Rattle.std.proofs.lemmas.Bool.{leb-true, cond-true, cond-false, le-leb, lt-leb}
 use Rattle.flash.specs.Cells.{over}
 use Rattle.nodes.specs.Items.{size}
-use Rattle.nodes.proofs.Standing.{at_all}
-use Rattle.encode.specs.Encode.{spread, zero_word, padding, head, filling, rest_of_batch}
+use Rattle.encode.specs.Encode.{spread, zero_word, padding, head, filling}
 use Rattle.encode.specs.Laid.{AllWellFormed, laid, run}
-use Rattle.encode.specs.Laws.{Fillers, Filled, Fills}
-use Rattle.encode.specs.Made.{Made, filling_goes}
-use Rattle.encode.proofs.Buffers.{let_by, made_is}
+use Rattle.encode.specs.Laws.{Fillers, Fills}
 use Rattle.encode.proofs.Headers.{head_length, padding_well, padding_size, word_well, word_size}
 use Rattle.encode.proofs.Laying.{laid_length}
 use Rattle.encode.proofs.Parts.{over_first}
@@ -54,48 +51,25 @@ zero_words (suc k) =
     ∙ ap (λ l. zero_word ++ l) (zero_words k) ∙ ap (λ m. replicate m 0) n
 
 -- zeros, and a header over them
-pub padding_put : (n : ℕ) (xs os ps hw : List ℕ) → 12 ≤ n → n < 2 ^ 32 → n % 4 ≡ 0 → os ≡ over xs 0 (replicate (n - 0) 0) → spread hw ≡ head 0x2004 n → ps ≡ over os 0 (spread hw)
+pub padding_put : (n : ℕ) (xs os ps hw : List ℕ) → 12 ≤ n → n < 2 ^ 32 → n % 4 ≡ 0 → os ≡ replicate n 0 ++ drop n xs → spread hw ≡ head 0x2004 n → ps ≡ over os 0 (spread hw)
     → ps ≡ run (filling n) ++ drop n xs
 unfolding run filling padding
 padding_put n xs os ps hw l f e o h p =
     let s : size (padding n) ≡ n = padding_size n l f ∙ omega arith in
     let k : length (head 0x2004 n) ≡ 12 = head_length 0x2004 n in
-    let zeros : os ≡ replicate n 0 ++ drop n xs = o ∙ over_first xs (replicate (n - 0) 0) n (length-replicate (n - 0) 0 ∙ omega arith) ∙ ap (λ m. replicate m 0 ++ drop n xs) (omega arith) in
     let z : 12 ≤ length (replicate {A = ℕ} n 0) = omega (arith, length-replicate {A = ℕ} n 0) in
     let rest : drop 12 os ≡ replicate (n - 12) 0 ++ drop n xs =
-    ap (drop 12) zeros ∙ drop-append-le 12 (replicate n 0) (drop n xs) z ∙ ap (λ l. l ++ drop n xs) (drop-replicate 12 n 0) in
+    ap (drop 12) o ∙ drop-append-le 12 (replicate n 0) (drop n xs) z ∙ ap (λ l. l ++ drop n xs) (drop-replicate 12 n 0) in
     let made : laid (padding n) ≡ head 0x2004 n ++ replicate (n - 12) 0 = ap (λ m. head 0x2004 n ++ replicate m 0) (omega (arith, s, k)) in
     p ∙ ap (over os 0) h ∙ over_first os (head 0x2004 n) 12 k ∙ ap (λ l. head 0x2004 n ++ l) rest
     ∙ sym (append_assoc (head 0x2004 n) (replicate (n - 12) 0) (drop n xs))
     ∙ ap (λ l. l ++ drop n xs) (sym (ap run (cond-true _ _ _ (le-leb 12 n l)) ∙ append-nil (laid (padding n)) ∙ made))
 
-pub zeros_put : (n : ℕ) (xs os : List ℕ) → n < 12 → n % 4 ≡ 0 → os ≡ over xs 0 (replicate (n - 0) 0) → os ≡ run (filling n) ++ drop n xs
+pub zeros_put : (n : ℕ) (xs os : List ℕ) → n < 12 → n % 4 ≡ 0 → os ≡ replicate n 0 ++ drop n xs → os ≡ run (filling n) ++ drop n xs
 unfolding filling
 zeros_put n xs os l e o =
     let q : n / 4 * 4 ≡ n = omega arith in
-    o ∙ over_first xs (replicate (n - 0) 0) n (length-replicate (n - 0) 0 ∙ omega arith) ∙ ap (λ m. replicate m 0 ++ drop n xs) (omega arith)
-    ∙ ap (λ l. l ++ drop n xs) (sym (ap run (cond-false _ _ _ (lt-leb 12 n l)) ∙ zero_words (n / 4) ∙ ap (λ m. replicate m 0) q))
+    o ∙ ap (λ l. l ++ drop n xs) (sym (ap run (cond-false _ _ _ (lt-leb 12 n l)) ∙ zero_words (n / 4) ∙ ap (λ m. replicate m 0) q))
 
 pub fillers : Fillers
 fillers = (word_well, word_size, λ n l f. (padding_well n l f, padding_size n l f))
-
--- what the test lets by fills, and is made
-module _ (batch end : ℕ) (xs ps : List ℕ) (n : ℕ) (e : Some n ≡ cond (filling_goes batch end (length xs)) (Some (rest_of_batch batch end)) None) where
-  is_rest : n ≡ rest_of_batch batch end
-  is_rest = (let_by (filling_goes batch end (length xs)) (rest_of_batch batch end) n e).1
-
-  goes : filling_goes batch end (length xs) ≡ true
-  goes = (let_by (filling_goes batch end (length xs)) (rest_of_batch batch end) n e).0
-
-  pub filling_made : ps ≡ run (filling n) ++ drop n xs
-      → Made (filling_goes batch end (length xs)) (rest_of_batch batch end) (run (filling (rest_of_batch batch end)) ++ drop (rest_of_batch batch end) xs) xs ps (Some n)
-  filling_made p =
-      let rest = rest_of_batch batch end in
-      subst (λ (m : ℕ). Made (filling_goes batch end (length xs)) rest (run (filling rest) ++ drop rest xs) xs ps (Some m)) (sym is_rest)
-      (made_is _ rest _ xs ps goes (p ∙ ap (λ m. run (filling m) ++ drop m xs) is_rest))
-
-  pub filling_filled : Filled (rest_of_batch batch end)
-  filling_filled =
-      let rest = rest_of_batch batch end in
-      let tests = ltb 0 batch ∷ eqb (rest % 4) 0 ∷ ltb rest (2 ^ 32) ∷ leb rest (length xs) ∷ [] in
-      fills rest (eqb-true _ _ (at_all tests goes 1)) (ltb-true _ _ (at_all tests goes 2))

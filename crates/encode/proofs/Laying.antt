@@ -1,5 +1,5 @@
 -- Items laid where a walk ends follow those that stood.
-use Rattle.std.proofs.Common.{◌≡◌, ℕ, zero, suc, ◌+◌, ◌-◌, ◌≤◌, Bool, true, false, ◌⊎◌, List, [], ◌∷◌, ◌++◌, length, take, drop, replicate, Some, None, Option, sym, refl, ap, ◌∙◌, subst, inl, inr, ⊎_elim, append_assoc, append-nil, arith, length-drop}
+use Rattle.std.proofs.Common.{zero-add, ◌≡◌, ℕ, zero, suc, ◌+◌, ◌-◌, ◌≤◌, Bool, true, false, ◌⊎◌, List, [], ◌∷◌, ◌++◌, length, take, drop, replicate, Some, None, Option, sym, refl, ap, ◌∙◌, subst, inl, inr, ⊎_elim, append_assoc, append-nil, arith, length-drop}
 use lib.ListN.{length-replicate}
 use Rattle.std.proofs.lemmas.List.{take_at, drop_at, drop-drop, drop-replicate, map-append, length-append, length-map, length-take-le, take-take, drop-take, take-map, drop-map}
 use Rattle.std.proofs.lemmas.Bool.{eqb-true}
@@ -120,32 +120,40 @@ end_placed e (it ∷ its) w =
     let k = length-append (laid it) (run its) in
     omega arith
 
-module _ (xs : List Cell) (e : ℕ) (w : List Cell) (fits : e + length w ≤ length xs) where
-  over_rest : drop e (over xs e w) ≡ w ++ drop (e + length w) xs
-  over_rest = drop_at (take e xs) _ e (length-take-le e xs (omega arith))
+-- bytes laid at e
+module _ (xs : List Cell) (e : ℕ) (bs : List ℕ) (room : e + length bs ≤ length xs) where
+  long : length (cells bs) ≡ length bs
+  long = length-map bs byte
 
-  over_front : take e xs ≡ take e (over xs e w)
+  over_front : take e xs ≡ take e (over xs e (cells bs))
   over_front = sym (take_at (take e xs) _ e (length-take-le e xs (omega arith)))
 
-  over_length : length xs ≡ length (over xs e w)
+  over_rest : drop e (over xs e (cells bs)) ≡ cells bs ++ drop (e + length bs) xs
+  over_rest = drop_at (take e xs) _ e (length-take-le e xs (omega arith)) ∙ ap (λ k. cells bs ++ drop (e + k) xs) long
+
+  over_length : length xs ≡ length (over xs e (cells bs))
   over_length =
-      omega
-      (arith, length-take-le e xs (omega arith), length-append (take e xs) (w ++ drop (e + length w) xs), length-append w (drop (e + length w) xs), length-drop (e + length w) xs)
+      let l = long in
+      simp (length-append, length-drop) (omega (arith, length-take-le e xs (omega arith)))
 
-  blank_behind : drop e xs ≡ blank (length xs - e) → drop (e + length w) xs ≡ blank (length xs - (e + length w))
-  blank_behind b =
-      sym (drop-drop (length w) e xs) ∙ ap (drop (length w)) b ∙ drop-replicate (length w) (length xs - e) (byte 255) ∙ ap blank (omega arith)
+  -- and what a walk meets from there on, where all was blank and the bytes are a run of items
+  module _ (its : List Item) (w : AllWellFormed its) (r : bs ≡ run its) (bare : drop e xs ≡ blank (length xs - e)) where
+    blank_behind : drop (e + length bs) xs ≡ blank (length xs - (e + length bs))
+    blank_behind =
+        sym (drop-drop (length bs) e xs) ∙ ap (drop (length bs)) bare ∙ drop-replicate (length bs) (length xs - e) (byte 255) ∙ ap blank (omega arith)
 
-  over_blank : drop e xs ≡ blank (length xs - e) → drop (e + length w) (over xs e w) ≡ blank (length (over xs e w) - (e + length w))
-  over_blank b =
-      sym (drop-drop (length w) e (over xs e w)) ∙ ap (drop (length w)) over_rest ∙ drop_at w _ (length w) refl
-      ∙ blank_behind b ∙ ap (λ n. blank (n - (e + length w))) over_length
+    rest_walk : walk_from (over xs e (cells bs)) e ≡ placed e its
+    rest_walk =
+        run_walk its (over xs e (cells bs)) e (length xs - (e + length bs))
+        (over_rest ∙ ap (λ l. cells bs ++ l) blank_behind ∙ ap (λ l. cells l ++ blank (length xs - (e + length bs))) r) w
 
-  -- the walk from there on
-  rest_walk : (its : List Item) → w ≡ cells (run its) → drop e xs ≡ blank (length xs - e) → AllWellFormed its → walk_from (over xs e w) e ≡ placed e its
-  rest_walk its r b well =
-      run_walk its (over xs e w) e (length xs - (e + length w))
-      (over_rest ∙ ap (λ l. l ++ drop (e + length w) xs) r ∙ ap (λ l. cells (run its) ++ l) (blank_behind b)) well
+    rest_end : end_of e (placed e its) ≡ e + length bs
+    rest_end = end_placed e its w ∙ ap (λ l. e + length l) (sym r)
+
+    rest_behind : drop (e + length bs) (over xs e (cells bs)) ≡ blank (length (over xs e (cells bs)) - (e + length bs))
+    rest_behind =
+        sym (drop-drop (length bs) e (over xs e (cells bs))) ∙ ap (drop (length bs)) over_rest ∙ drop_at (cells bs) _ (length bs) long
+        ∙ blank_behind ∙ ap (λ n. blank (n - (e + length bs))) over_length
 
 begun : (xs : List Cell) (e : ℕ) → 12 ≤ e → Ends xs e → marked xs ≡ true
 begun xs e h n = go (marked xs) refl
@@ -156,19 +164,13 @@ begun xs e h n = go (marked xs) refl
 
 pub appends : Appends
 unfolding walk_from
-appends xs e bs room its w r h n = (walked, record { at = ends; behind = behind })
+appends xs e bs room its w r h n = (walked, record { at = ends; behind = rest_behind xs e bs room its w r n.behind })
   where
-    long : length (cells bs) ≡ length bs
-    long = length-map bs byte
-
-    fits : e + length (cells bs) ≤ length xs
-    fits = let l = long in omega arith
-
     ys : List Cell
     ys = over xs e (cells bs)
 
     front : take e xs ≡ take e ys
-    front = over_front xs e (cells bs) fits
+    front = over_front xs e bs room
 
     t : marked xs ≡ true
     t = begun xs e h n
@@ -182,50 +184,39 @@ appends xs e bs room its w r h n = (walked, record { at = ends; behind = behind 
     walked : walk ys ≡ walk xs ++ placed e its
     walked =
         walk_marked ys t'
-        ∙ before xs ys (over_length xs e (cells bs) fits) e front (length xs) 0 upto
+        ∙ before xs ys (over_length xs e bs room) e front (length xs) 0 upto
         ∙ ap (λ l. l ++ walk_from ys e) (sym (walk_marked xs t))
-        ∙ ap (λ l. walk xs ++ l) (rest_walk xs e (cells bs) fits its (ap cells r) n.behind w)
+        ∙ ap (λ l. walk xs ++ l) (rest_walk xs e bs room its w r n.behind)
 
     ends : end_of 0 (walk ys) ≡ e + length bs
     ends =
         ap (end_of 0) walked ∙ end_append 0 (walk xs) (placed e its) ∙ ap (λ p. end_of p (placed e its)) n.at
-        ∙ end_placed e its w ∙ ap (λ l. e + length l) (sym r)
-
-    behind : drop (e + length bs) ys ≡ blank (length ys - (e + length bs))
-    behind = subst (λ k. drop (e + k) ys ≡ blank (length ys - (e + k))) long (over_blank xs e (cells bs) fits n.behind)
+        ∙ rest_end xs e bs room its w r n.behind
 
 pub marker_well : WellFormed marker
 marker_well = (marker_reach, marker_passes (size marker) (let s = marker_size in omega arith))
 
 pub opens : Opens
 unfolding run size le32
-opens xs bs room its w r b = (walked, record { at = ends; behind = behind })
+opens xs bs room its w r b = (walked, subst (Ends ys) (zero-add (length bs)) (record { at = ap (end_of 0) walked ∙ rest_end xs 0 bs fits (marker ∷ its) all r bare; behind = rest_behind xs 0 bs fits (marker ∷ its) all r bare }))
   where
-    long : 0 + length (cells bs) ≡ length bs
-    long = let l = length-map bs byte in omega arith
-
-    fits : 0 + length (cells bs) ≤ length xs
-    fits = let l = long in omega arith
-
     ys : List Cell
     ys = over xs 0 (cells bs)
+
+    fits : 0 + length bs ≤ length xs
+    fits = omega arith
 
     bare : drop 0 xs ≡ blank (length xs - 0)
     bare = b ∙ ap blank (omega arith)
 
-    begins : cells bs ++ drop (0 + length (cells bs)) xs ≡ cells marker ++ (cells (run its) ++ drop (0 + length (cells bs)) xs)
+    all : AllWellFormed (marker ∷ its)
+    all = (marker_well, w)
+
+    begins : ys ≡ cells marker ++ (cells (run its) ++ drop (0 + length (cells bs)) xs)
     begins = ap (λ l. cells l ++ drop (0 + length (cells bs)) xs) r
 
     walked : walk ys ≡ placed 0 (marker ∷ its)
-    walked =
-        walk_marked ys (cells_marked ys (ap (take 12) begins))
-        ∙ rest_walk xs 0 (cells bs) fits (marker ∷ its) (ap cells r) bare (marker_well, w)
-
-    ends : end_of 0 (walk ys) ≡ length bs
-    ends = ap (end_of 0) walked ∙ end_placed 0 (marker ∷ its) (marker_well, w) ∙ (let e = ap length r in omega arith)
-
-    behind : drop (length bs) ys ≡ blank (length ys - length bs)
-    behind = subst (λ k. drop k ys ≡ blank (length ys - k)) long (over_blank xs 0 (cells bs) fits bare)
+    walked = walk_marked ys (cells_marked ys (ap (take 12) begins)) ∙ rest_walk xs 0 bs fits (marker ∷ its) all r bare
 
 cells_over : (xs : List ℕ) (e : ℕ) (w : List ℕ) → cells (over xs e w) ≡ over (cells xs) e (cells w)
 cells_over xs e w =

@@ -6,4 +6,3 @@ pub mod Laying
 pub mod Parts
 pub mod Nodes
 pub mod Filling
-pub mod Buffers

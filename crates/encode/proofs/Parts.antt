@@ -1,8 +1,8 @@
 -- Bytes laid over others, part by part.
-use Rattle.std.proofs.Common.{◌≡◌, ℕ, ◌+◌, ◌*◌, ◌/◌, ◌%◌, ◌<◌, ◌≤◌, List, [], ◌∷◌, ◌++◌, length, get_or, take, drop, sym, refl, ap, ◌∙◌, append_assoc, add-zero, zero-add, arith}
+use Rattle.std.proofs.Common.{◌≡◌, ℕ, ◌+◌, ◌*◌, ◌/◌, ◌%◌, ◌<◌, ◌≤◌, List, [], ◌∷◌, ◌++◌, length, get_or, take, drop, sym, refl, ap, ◌∙◌, append_assoc, zero-add, arith}
 use borrow.Rule.Slice.PartMut.{put_mid}
-use Rattle.std.proofs.lemmas.List.{take_at, drop_at, drop-drop, length-append, length-take-le, take_more, take-append-drop, take_all, flat_map_more}
-use Rattle.std.proofs.lemmas.Nat.{shr-shr}
+use Rattle.std.proofs.lemmas.Grind.{common_steps}
+use Rattle.std.proofs.lemmas.List.{take_at, drop_at, drop-drop, length-append, length-take-le, take_more, flat_map_more}
 use Rattle.crc32.specs.Sum.{sum}
 use Rattle.flash.specs.Cells.{over}
 use Rattle.nodes.specs.Fields.{bytes32}
@@ -47,23 +47,19 @@ words_more xs at ws i os bs h l o b =
     ∙ ap (λ l. over xs at (spread (take i ws) ++ l)) b
     ∙ ap (over xs at) (sym (words_push (take i ws) (get_or ws i 0)) ∙ ap spread (sym (take_more ws i 0 l)))
 
-pub words_all : (xs : List ℕ) (at : ℕ) (ws : List ℕ) (i : ℕ) (os : List ℕ) → length ws ≤ i → os ≡ over xs at (spread (take i ws)) → os ≡ over xs at (spread ws)
-words_all xs at ws i os l o = o ∙ ap (λ v. over xs at (spread v)) (take_all i ws l)
-
 -- nothing laid over
 pub over_none : (xs : List ℕ) (at : ℕ) → xs ≡ over xs at (spread [])
 unfolding spread
-over_none xs at = sym (take-append-drop at xs) ∙ ap (λ n. take at xs ++ drop n xs) (sym (add-zero at))
+over_none xs at = grind (arith, common_steps)
 
 -- the words of a header
 magic : (k : ℕ) → k < 65536 → bytes32 (0x1985 + 0x10000 * k) ≡ 0x85 ∷ 0x19 ∷ (k % 256) ∷ (k / 256 % 256) ∷ []
 magic k h =
     let n = 0x1985 + 0x10000 * k in
-    let one : n / 256 ≡ 0x19 + 256 * k = omega arith in
-    let two : n / 65536 ≡ k = omega arith in
-    let three : n / 16777216 ≡ k / 256 = sym (shr-shr n 16 8) ∙ ap (λ m. m / 256) two in
-    let a : n % 256 ≡ 0x85 = omega arith in
-    let b : n / 256 % 256 ≡ 0x19 = ap (λ m. m % 256) one ∙ omega arith in
+    let first : n % 256 ≡ 0x85 = omega arith in
+    let second : n / 256 % 256 ≡ 0x19 = omega arith in
+    let third : n / 65536 ≡ k = omega arith in
+    let fourth : n / 16777216 ≡ k / 256 = omega arith in
     cc
 
 pub head_words : (k n f s : ℕ) → k < 65536 → f ≡ 0x1985 + 0x10000 * k → s ≡ sum (spread (f ∷ n ∷ [])) → spread (f ∷ n ∷ s ∷ []) ≡ head k n

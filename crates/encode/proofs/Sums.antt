@@ -1,8 +1,7 @@
 -- The sum of bytes is a number of four bytes, and numbers of four bytes are read again as they were.
-use Rattle.std.proofs.Common.{◌≡◌, ℕ, zero, suc, ◌+◌, ◌*◌, ◌/◌, ◌%◌, ◌^◌, ◌<◌, eqb, List, [], ◌∷◌, ◌++◌, mod-eq_of_lt, arith}
+use Rattle.std.proofs.Common.{ap, ◌∙◌, ◌≡◌, ℕ, zero, suc, ◌+◌, ◌*◌, ◌/◌, ◌%◌, ◌^◌, ◌<◌, eqb, List, [], ◌∷◌, ◌++◌, arith}
 use lib.Bits.{bit_xor, xor_lt}
 use Rattle.std.proofs.lemmas.Bool.{cond_both}
-use Rattle.std.proofs.lemmas.Nat.{shr-shr, shr_below}
 use Rattle.crc32.specs.Sum.{sum, sum_from, fed, rounds, round}
 use Rattle.nodes.specs.Fields.{bytes32}
 use Rattle.encode.specs.Encode.{Bytes}
@@ -30,10 +29,7 @@ unfolding sum
 sum_fits bs b = from_fits 0 bs (omega arith) b
 
 pub digits : (n : ℕ) → n < 2 ^ 32 → n % 256 + n / 256 % 256 * 256 + n / 65536 % 256 * 65536 + n / 16777216 % 256 * 16777216 ≡ n
-digits n h =
-    let b : n / 16777216 < 256 = shr_below n 8 24 h in
-    let m : n / 16777216 % 256 ≡ n / 16777216 = mod-eq_of_lt b in
-    omega (arith, shr-shr n 8 8, shr-shr n 16 8)
+digits n h = omega arith
 
 pub bytes_append : (a b : List ℕ) → Bytes a → Bytes b → Bytes (a ++ b)
 bytes_append [] b p q = q
@@ -41,3 +37,15 @@ bytes_append (x ∷ a) b p q = (p.0, bytes_append a b p.1 q)
 
 pub bytes32_are : (n : ℕ) → Bytes (bytes32 n)
 bytes32_are n = (omega arith, (omega arith, (omega arith, (omega arith, tt))))
+
+-- two bytes in the low half of a word, and one
+pub low_bytes : (a b : ℕ) → a < 256 → b < 256 → bytes32 (a + 256 * b) ≡ a ∷ b ∷ 0 ∷ 0 ∷ []
+low_bytes a b h l =
+    let first : (a + 256 * b) % 256 ≡ a = omega arith in
+    let second : (a + 256 * b) / 256 % 256 ≡ b = omega arith in
+    let third : (a + 256 * b) / 65536 % 256 ≡ 0 = omega arith in
+    let fourth : (a + 256 * b) / 16777216 % 256 ≡ 0 = omega arith in
+    cc
+
+pub low_byte : (a : ℕ) → a < 256 → bytes32 a ≡ a ∷ 0 ∷ 0 ∷ 0 ∷ []
+low_byte a h = ap bytes32 (omega arith) ∙ low_bytes a 0 h (omega arith)

@@ -4,15 +4,6 @@ ghost use Rattle.flash.specs.Cells.{cells, over};
 ghost use Rattle.encode.specs.Laws.{Appended, Opened};
 ghost use Rattle.encode.specs.Made.{Made};
 
-use crate::words::put;
-
-// Whether n bytes fit behind the end of a block of so many.
-fn fits(room: usize, end: usize, n: usize) -> bool
-    ensures { result ≡ nat_le (end + n) room }
-{
-    end <= room && n <= room - end
-}
-
 // Lays the bytes of a run at the end of a block, and answers the new end; refuses a run that does not fit. Where the block's
 // items end there and blank cells follow, just the items of the run come after them.
 pub fn append(block: &mut [u8], end: usize, bytes: &[u8]) -> Option<usize>
@@ -20,9 +11,10 @@ pub fn append(block: &mut [u8], end: usize, bytes: &[u8]) -> Option<usize>
     ensures appended { is_some result ≡ true → Appended (cells block.old) end bytes.now (cells block.new) }
     ensures opened { is_some result ≡ true → end ≡ 0 → Opened (cells block.old) bytes.now (cells block.new) }
 {
-    if !fits(block.len(), end, bytes.len()) {
+    let behind = end.checked_add(bytes.len())?;
+    if behind > block.len() {
         return None;
     }
-    put(block, end, bytes);
-    Some(end + bytes.len())
+    block[end..behind].copy_from_slice(bytes);
+    Some(behind)
 }

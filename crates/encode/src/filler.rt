@@ -6,7 +6,7 @@ ghost use Rattle.encode.specs.Laid.{run};
 ghost use Rattle.encode.specs.Laws.{Filled};
 ghost use Rattle.encode.specs.Made.{Made, filling_goes};
 
-use crate::words::{header, put, put_words, put_zeros};
+use crate::words::{header, put_words};
 use kinds::Kind;
 
 // The header of the marker's kind, 12 bytes long, with its sum.
@@ -18,11 +18,8 @@ const MARKER: [u8; 12] = [
 pub fn marker(out: &mut [u8]) -> Option<usize>
     ensures { Made (nat_le 12 (length out.old)) 12 (walks.marker ++ drop 12 out.old) out.old out.new result }
 {
-    if out.len() < 12 {
-        return None;
-    }
-    put(out, 0, &MARKER);
-    Some(12)
+    *out.first_chunk_mut()? = MARKER;
+    Some(MARKER.len())
 }
 
 // How many bytes fill a batch from a place on, if these are whole words, no more than a header can say, and there is room.
@@ -33,11 +30,7 @@ fn rest_within(batch: usize, end: usize, room: usize) -> Option<usize>
         return None;
     }
     let n = (batch - end % batch) % batch;
-    if n % 4 == 0 && n <= 0xffff_ffff && n <= room {
-        Some(n)
-    } else {
-        None
-    }
+    (n % 4 == 0 && n <= 0xffff_ffff && n <= room).then_some(n)
 }
 
 // Writes n bytes at the front of `out` that a walk passes over: padding, or zero words where there is no room for a header.
@@ -45,7 +38,7 @@ fn put_filling(out: &mut [u8], n: usize)
     requires { (n % 4 ≡ 0) × ((n < 2 ^ 32) × (n ≤ length out.old)) }
     ensures { out.new ≡ run (items.filling n) ++ drop n out.old }
 {
-    put_zeros(out, 0, n);
+    out[..n].fill(0);
     if n >= 12 {
         put_words(out, 0, &header(Kind::Padding, n as u32));
     }

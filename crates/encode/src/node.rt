@@ -1,117 +1,187 @@
 // Entries and contents made from their fields.
-ghost use Rattle.std.specs.Prelude.{◌≡◌, ◌+◌, ◌*◌, ◌^◌, ◌<◌, ◌≤◌, true, [], ◌∷◌, length, is_some, if◌then◌else◌, Some, None, nat_le};
+ghost use Rattle.std.specs.Prelude.{◌≡◌, ℕ, ◌+◌, ◌*◌, ◌^◌, ◌<◌, ◌≤◌, true, List, length, is_some, nat_le};
+ghost use Rattle.std.proofs.Common.{lit<};
+ghost use Rattle.crc32.specs.Sum.{sum};
 ghost use Rattle.flash.specs.Cells.{over};
-ghost use Rattle.nodes.specs.Fields.{padded, all};
+ghost use Rattle.kinds.specs.Kinds.{kind_value};
+ghost use Rattle.nodes.specs.Fields.{padded};
+ghost use Rattle.nodes.specs.Items.{Item, size};
 ghost use Rattle.nodes.specs.Shown.{entry_shown, content_shown};
 ghost use Rattle.encode.specs.Encode.{entry_item, content_item};
+ghost use Rattle.encode.specs.Laid.{WellFormed};
 ghost use Rattle.encode.specs.Laws.{EntryTrip, ContentTrip};
 ghost use Rattle.encode.specs.Made.{ItemMade};
+ghost use Rattle.encode.specs.Node.{node_item, entry_words, entry_sums, content_words, content_sums};
 
-use crate::words::{header, put, put_words, put_zeros, sum_of_first};
+use crate::words::{header, put_words};
 use crc32::sum_of;
 use kinds::Kind;
 use nodes::record::{Content, Entry};
 
-// The size on a block of a node with n bytes behind its fixed part, if it may have so many and there is room.
-fn size_within(fixed: usize, n: usize, most: usize, room: usize) -> Option<usize>
-    requires { (fixed ≤ 68) × (most ≤ 512) }
-    ensures { result ≡ (if all (nat_le n most ∷ nat_le (padded (fixed + n)) room ∷ []) then Some (padded (fixed + n)) else None) }
+// What a node is made of: a header, WORDS words, two sums, and the bytes that it holds, at most MOST. The kind is no constant,
+// since the check does not state one yet for a type with a lifetime.
+pub trait Node<const WORDS: usize, const MOST: usize> {
+    ghost kind: { ℕ };
+
+    ghost words: { Self → ℕ → List ℕ };
+
+    ghost sums: { ℕ → ℕ → List ℕ };
+
+    ghost held: { Self → List ℕ };
+
+    // The item that has these fields, and that it passes and is read as them.
+    ghost item: { Self → Item };
+
+    ghost trip: { Self → Type 0 };
+
+    fn kind(&self) -> Kind
+        ensures { kind_value result ≡ kind };
+
+    // The words from the header up to the sums, where n bytes are held.
+    fn words(&self, n: u16) -> [u32; WORDS]
+        ensures value { result ≡ words self.now n }
+        ensures made { length (held self.now) ≤ MOST → (item self.now ≡ node_item kind (20 + 4 * WORDS + length (held self.now)) (words self.now (length (held self.now))) sums (held self.now)) × (sum (held self.now) < 2 ^ 32 → trip self.now) };
+
+    // The two sums in the order of this kind: of what stands before them, and of what is held.
+    fn sums(&self, before: u32, behind: u32) -> [u32; 2]
+        ensures { result ≡ sums before behind };
+
+    // The bytes behind the sums, which decide how large the node is.
+    fn held(&self) -> &[u8]
+        ensures value { result.now ≡ held self.now }
+        ensures long { length (item self.now) ≡ 20 + 4 * WORDS + length (held self.now) }
+        ensures sized { length (held self.now) ≤ MOST → size (item self.now) ≡ padded (20 + 4 * WORDS + length (held self.now)) };
+
+    ghost small: { (WORDS < 256) × (MOST < 65536) };
+
+    ghost passes: { (x : Self) → trip x → WellFormed (item x) };
+}
+
+impl Node<5, 32> for Entry<'_> {
+    ghost kind = { 0xE001 };
+
+    ghost words = { λ e n. entry_words (entry_shown e) n };
+
+    ghost held = { λ e. e.name.now };
+
+    ghost sums = { entry_sums };
+
+    ghost item = { λ e. entry_item (entry_shown e) };
+
+    ghost trip = { λ e. EntryTrip (entry_shown e) };
+
+    ghost small = { (lit< tt, lit< tt) };
+
+    ghost passes = { λ x t. t.0 };
+
+    fn kind(&self) -> Kind {
+        Kind::Entry
+    }
+
+    // The last word has the name's length and the type in its low bytes.
+    fn words(&self, n: u16) -> [u32; 5] {
+        [
+            self.pino,
+            self.version,
+            self.ino,
+            0,
+            n as u32 + 256 * self.dtype as u32,
+        ]
+    }
+
+    fn held(&self) -> &[u8] {
+        self.name
+    }
+
+    fn sums(&self, before: u32, behind: u32) -> [u32; 2] {
+        [before, behind]
+    }
+}
+
+impl Node<12, 512> for Content<'_> {
+    ghost kind = { 0xE002 };
+
+    ghost words = { λ c n. content_words (content_shown c) n };
+
+    ghost held = { λ c. c.payload.now };
+
+    ghost sums = { content_sums };
+
+    ghost item = { λ c. content_item (content_shown c) };
+
+    ghost trip = { λ c. ContentTrip (content_shown c) };
+
+    ghost small = { (lit< tt, lit< tt) };
+
+    ghost passes = { λ x t. t.0 };
+
+    fn kind(&self) -> Kind {
+        Kind::Content
+    }
+
+    // The last word has the way of compression in its low byte.
+    fn words(&self, n: u16) -> [u32; 12] {
+        [
+            self.ino,
+            self.version,
+            self.mode,
+            0,
+            self.isize,
+            0,
+            0,
+            0,
+            self.offset,
+            n as u32,
+            self.dsize,
+            self.compr as u32,
+        ]
+    }
+
+    fn held(&self) -> &[u8] {
+        self.payload
+    }
+
+    fn sums(&self, before: u32, behind: u32) -> [u32; 2] {
+        [behind, before]
+    }
+}
+
+// Writes a node at the front of `out`.
+fn put_node<const WORDS: usize, const MOST: usize, N: Node<WORDS, MOST>>(node: &N, out: &mut [u8])
+    requires short { length (N.held node.now) ≤ MOST }
+    requires room { 20 + 4 * WORDS + length (N.held node.now) ≤ length out.old }
+    ensures bytes { out.new ≡ over out.old 0 (N.item node.now) }
+    ensures trip { N.trip node.now }
 {
-    if n > most {
+    let held = node.held();
+    let sums = 12 + 4 * WORDS;
+    let end = sums + 8 + held.len();
+    put_words(out, 0, &header(node.kind(), end as u32));
+    put_words(out, 12, &node.words(held.len() as u16));
+    let before = sum_of(&out[..sums]);
+    put_words(out, sums, &node.sums(before, sum_of(held)));
+    out[sums + 8..end].copy_from_slice(held);
+}
+
+// Makes a node at the front of `out` and answers its size on a block; refuses a name or data above the most bytes, and want of
+// room. What is made passes, and is read as the same fields.
+pub fn encode<const WORDS: usize, const MOST: usize, N: Node<WORDS, MOST>>(
+    node: &N,
+    out: &mut [u8],
+) -> Option<usize>
+    ensures made { ItemMade (nat_le (length (N.held node.now)) MOST) (N.item node.now) out.old out.new result }
+    ensures trip { is_some result ≡ true → N.trip node.now }
+{
+    let n = node.held().len();
+    if n > MOST {
         return None;
     }
-    let size = (fixed + n + 3) / 4 * 4;
-    if size <= room { Some(size) } else { None }
-}
-
-// The words of an entry from its header up to its sums; the last has the name's length and the type in its low bytes.
-fn entry_words(node: &Entry<'_>, nsize: u32) -> [u32; 5]
-    requires { nsize < 256 }
-    ensures words { result ≡ node.now.pino ∷ node.now.version ∷ node.now.ino ∷ 0 ∷ (nsize + 256 * node.now.dtype) ∷ [] }
-    ensures fits { node.now.dtype < 256 }
-    ensures ranges { (node.now.pino < 2 ^ 32) × (node.now.version < 2 ^ 32) × (node.now.ino < 2 ^ 32) }
-{
-    [
-        node.pino,
-        node.version,
-        node.ino,
-        0,
-        nsize + 256 * node.dtype as u32,
-    ]
-}
-
-// Writes an entry at the front of `out`.
-fn put_entry(node: &Entry<'_>, out: &mut [u8])
-    requires { (length node.now.name.now ≤ 32) × (40 + length node.now.name.now ≤ length out.old) }
-    ensures bytes { out.new ≡ over out.old 0 (entry_item (entry_shown node.now)) }
-    ensures trip { EntryTrip (entry_shown node.now) }
-{
-    let nsize = node.name.len() as u32;
-    put_words(out, 0, &header(Kind::Entry, 40 + nsize));
-    put_words(out, 12, &entry_words(node, nsize));
-    let fixed = sum_of_first(out, 32);
-    put_words(out, 32, &[fixed, sum_of(node.name)]);
-    put(out, 40, node.name);
-}
-
-// Makes an entry at the front of `out` and answers its size on a block; refuses a name above 32 bytes, and want of room. What
-// is made passes, and is read as the same fields.
-pub fn encode_entry(node: &Entry<'_>, out: &mut [u8]) -> Option<usize>
-    ensures made { ItemMade (nat_le (length node.now.name.now) 32) (entry_item (entry_shown node.now)) out.old out.new result }
-    ensures trip { is_some result ≡ true → EntryTrip (entry_shown node.now) }
-{
-    let n = node.name.len();
-    let size = size_within(40, n, 32, out.len())?;
-    put_entry(node, out);
-    put_zeros(out, 40 + n, size);
-    Some(size)
-}
-
-// The words of a content from its header up to its sums; the last has the way of compression in its low byte.
-fn content_words(node: &Content<'_>, csize: u32) -> [u32; 12]
-    ensures words { result ≡ node.now.ino ∷ node.now.version ∷ node.now.mode ∷ 0 ∷ node.now.isize ∷ 0 ∷ 0 ∷ 0 ∷ node.now.offset ∷ csize ∷ node.now.dsize ∷ node.now.compr ∷ [] }
-    ensures fits { (node.now.dsize < 2 ^ 32) × (node.now.compr < 256) }
-    ensures ranges { (node.now.ino < 2 ^ 32) × (node.now.version < 2 ^ 32) × (node.now.mode < 2 ^ 32) × (node.now.isize < 2 ^ 32) × (node.now.offset < 2 ^ 32) }
-{
-    [
-        node.ino,
-        node.version,
-        node.mode,
-        0,
-        node.isize,
-        0,
-        0,
-        0,
-        node.offset,
-        csize,
-        node.dsize,
-        node.compr as u32,
-    ]
-}
-
-// Writes a content at the front of `out`.
-fn put_content(node: &Content<'_>, out: &mut [u8])
-    requires { (length node.now.payload.now ≤ 512) × (68 + length node.now.payload.now ≤ length out.old) }
-    ensures bytes { out.new ≡ over out.old 0 (content_item (content_shown node.now)) }
-    ensures trip { ContentTrip (content_shown node.now) }
-{
-    let csize = node.payload.len() as u32;
-    put_words(out, 0, &header(Kind::Content, 68 + csize));
-    put_words(out, 12, &content_words(node, csize));
-    let fixed = sum_of_first(out, 60);
-    put_words(out, 60, &[sum_of(node.payload), fixed]);
-    put(out, 68, node.payload);
-}
-
-// Makes a content at the front of `out` and answers its size on a block; refuses data above 512 bytes, and want of room. What
-// is made passes, and is read as the same fields.
-pub fn encode_content(node: &Content<'_>, out: &mut [u8]) -> Option<usize>
-    ensures made { ItemMade (nat_le (length node.now.payload.now) 512) (content_item (content_shown node.now)) out.old out.new result }
-    ensures trip { is_some result ≡ true → ContentTrip (content_shown node.now) }
-{
-    let n = node.payload.len();
-    let size = size_within(68, n, 512, out.len())?;
-    put_content(node, out);
-    put_zeros(out, 68 + n, size);
+    let end = 20 + 4 * WORDS + n;
+    let size = end.next_multiple_of(4);
+    if size > out.len() {
+        return None;
+    }
+    put_node(node, out);
+    out[end..size].fill(0);
     Some(size)
 }

@@ -7,6 +7,7 @@ ghost use Rattle.crc32.specs.Sum.{sum};
 ghost use Rattle.nodes.specs.Seen.{seen};
 ghost use Rattle.nodes.specs.Walk.{walk};
 
+use nodes::image::Image;
 use nodes::reader::Reader;
 
 // The sum of the bytes.
@@ -16,22 +17,14 @@ pub fn mutsindry_sum(bytes: &[u8]) -> u32
     crc32::sum_of(bytes)
 }
 
-// How many items the walk of a block meets.
-fn count<'a>(bytes: &'a [u8], readable: &'a [bool]) -> usize
-    ensures { result ≡ length (walk (seen readable.now bytes.now)) }
-{
-    let mut n = 0;
-    let mut reader = Reader::new(0, bytes, readable);
-    while let Some(_found) = reader.next() {
-        n += 1;
-    }
-    n
-}
-
 // How many items the walk of a block of at most 4,096 bytes meets, all of which can be read.
 pub fn mutsindry_items(bytes: &[u8]) -> usize
     ensures { result ≡ length (walk (seen (replicate 1024 true) bytes.now)) }
 {
     let readable = [true; 1024];
-    count(bytes, &readable)
+    let image = Image {
+        bytes,
+        readable: &readable,
+    };
+    Reader::new(0, image).count()
 }

@@ -2,11 +2,13 @@
 --
 -- kind_value   of an item's kind, in its header
 -- kind_with    the kind that has a value
+-- IsKindOf     the answer is the kind that has this value, or the value, where none has it
 -- dtype_of     of a file and of a directory, the type in their entries
 -- mode_of      and the mode in their contents
-use Rattle.std.specs.Prelude.{ℕ, cond, Some, None, Option, ◌==◌}
+use Rattle.std.specs.Prelude.{◌≡◌, ℕ, cond, Some, None, Option, Result, MatchResult, ◌==◌}
 use Rattle.kinds.specs.declared.Kind.{Kind}
 use Rattle.kinds.specs.declared.Kind.TheVariants.{Marker, Padding, Entry, Content}
+use Rattle.kinds.specs.declared.UnknownKind.{UnknownKind}
 use Rattle.kinds.specs.declared.FileKind.{FileKind}
 use Rattle.kinds.specs.declared.FileKind.TheVariants.{File, Directory}
 
@@ -22,6 +24,9 @@ kind_with v =
     (cond (v == 0x2004) (Some Padding)
     (cond (v == 0xE001) (Some Entry)
     (cond (v == 0xE002) (Some Content) None)))
+
+abbrev pub IsKindOf : ℕ → Result Kind UnknownKind → Type 0
+IsKindOf v r = MatchResult r (λ kind. kind_with v ≡ Some kind) (λ e. (kind_with v ≡ None) × (e.0 ≡ v))
 
 abbrev pub dtype_of : FileKind → ℕ
 dtype_of File = 8

@@ -1,11 +1,15 @@
 // The values that stand for kinds on the flash: of the items that we know, and of what an entry can name.
 #![tactic(auto)]
 
-ghost use Rattle.std.specs.Prelude.{◌≡◌};
-ghost use Rattle.kinds.specs.Kinds.{kind_value, kind_with, dtype_of, mode_of};
+ghost use Rattle.std.specs.Prelude.{◌≡◌, ◌++◌, codes, Some};
+ghost use Rattle.std.specs.Fmt.{decimal};
+ghost use Rattle.kinds.specs.Kinds.{kind_value, dtype_of, mode_of, IsKindOf};
+
+use std::error::Error;
+use std::fmt;
 
 // The kind of an item; its value stands in the header.
-#[derive(Clone, Copy)]
+#[derive(Clone, Copy, Debug, PartialEq, Eq)]
 pub enum Kind {
     Marker = 0x2003,
     Padding = 0x2004,
@@ -13,33 +17,50 @@ pub enum Kind {
     Content = 0xe002,
 }
 
-impl Kind {
-    // The value on the flash.
-    pub fn value(self) -> u16
-        ensures { result ≡ kind_value self }
-    {
-        self as u16
-    }
+// A value that is of no kind that we know.
+#[derive(Clone, Copy, Debug, PartialEq, Eq)]
+pub struct UnknownKind(pub u16);
 
-    // The kind that has this value, if we know one.
-    pub fn of(value: u16) -> Option<Kind>
-        ensures { result ≡ kind_with value }
-    {
+impl From<Kind> for u16 {
+    ghost from_gives = { λ kind value. value ≡ kind_value kind };
+
+    fn from(kind: Kind) -> u16 {
+        kind as u16
+    }
+}
+
+impl TryFrom<u16> for Kind {
+    type Error = UnknownKind;
+
+    ghost try_from_gives = { IsKindOf };
+
+    fn try_from(value: u16) -> Result<Kind, UnknownKind> {
         match value {
-            0x2003 => Some(Kind::Marker),
-            0x2004 => Some(Kind::Padding),
-            0xe001 => Some(Kind::Entry),
-            0xe002 => Some(Kind::Content),
-            _ => None,
+            0x2003 => Ok(Kind::Marker),
+            0x2004 => Ok(Kind::Padding),
+            0xe001 => Ok(Kind::Entry),
+            0xe002 => Ok(Kind::Content),
+            _ => Err(UnknownKind(value)),
         }
     }
 }
 
-// What an entry can name.
-#[derive(Clone, Copy)]
+impl fmt::Display for UnknownKind {
+    ghost output = { λ e. Some (codes "no item has kind " ++ decimal e.0) };
+
+    fn fmt<W: fmt::Write>(&self, f: &mut fmt::Formatter<W>) -> fmt::Result {
+        write!(f, "no item has kind {}", self.0)
+    }
+}
+
+impl Error for UnknownKind {}
+
+// What an entry can name, with its type in an entry. It has two numbers, so neither is a conversion: `dtype` and `mode`
+// say which is meant.
+#[derive(Clone, Copy, Debug, PartialEq, Eq)]
 pub enum FileKind {
-    File,
-    Directory,
+    File = 8,
+    Directory = 4,
 }
 
 impl FileKind {
@@ -47,10 +68,7 @@ impl FileKind {
     pub fn dtype(self) -> u8
         ensures { result ≡ dtype_of self }
     {
-        match self {
-            FileKind::File => 8,
-            FileKind::Directory => 4,
-        }
+        self as u8
     }
 
     // The mode in a content: a regular file that its owner writes and all read, or a directory that all read and enter.

@@ -1,5 +1,5 @@
 -- Where all can be read and nothing is lost, the loss is fair.
-use Rattle.std.proofs.Common.{◌≡◌, ℕ, zero, suc, ◌+◌, ◌≤◌, Bool, true, false, not, List, [], ◌∷◌, length, drop, Some, None, Option, sym, refl, ap, ◌∙◌, subst, arith, length-drop}
+use Rattle.std.proofs.Common.{◌≡◌, ℕ, zero, suc, ◌+◌, ◌<◌, ◌≤◌, Bool, true, false, not, List, [], ◌∷◌, length, drop, Some, None, Option, sym, refl, ap, ◌∙◌, subst, arith, length-drop}
 use Rattle.std.proofs.lemmas.List.{length-map, drop-map}
 use Rattle.std.proofs.lemmas.Bool.{leb-true, eq-eqb, cond-true}
 use Rattle.std.proofs.lemmas.Bool.Decides.{nat_tests}
@@ -23,21 +23,25 @@ counted_least : (it : Item) → 12 ≤ totlen it → is_word it ≡ false → co
 unfolding counted
 counted_least it l w = grind (arith, nat_tests)
 
--- what counts of an item lies in the block
-pub counted_fits : (cs : List Cell) (it : Item) → Reads cs it → counted it ≤ length cs
+counted_some : (it : Item) → 12 ≤ totlen it → is_word it ≡ false → 0 < counted it
+unfolding counted
+counted_some it l w = grind (arith, nat_tests)
+
+-- what counts of an item is something, and lies in the block
+pub counted_fits : (cs : List Cell) (it : Item) → Reads cs it → (0 < counted it) × (counted it ≤ length cs)
 unfolding size
 counted_fits cs it r = go (is_word it) refl
   where
     s : (4 ≤ size it) × (length it ≤ size it) × (size it ≤ length cs)
     s = sized cs it r
 
-    go : (b : Bool) → is_word it ≡ b → counted it ≤ length cs
-    go true e = omega (arith, counted_word it e, s)
+    go : (b : Bool) → is_word it ≡ b → (0 < counted it) × (counted it ≤ length cs)
+    go true e = (omega (arith, counted_word it e), omega (arith, counted_word it e, s))
     go false e =
         let a = headed (length cs) it e r.good in
         let low = leb-true 12 (totlen it) (at_all (header (length cs) it) a 3) in
         let high = leb-true (padded (totlen it)) (length cs) (at_all (header (length cs) it) a 4) in
-        omega (arith, counted_least it low e)
+        (counted_some it low e, omega (arith, counted_least it low e))
 
 module _ (bs : List ℕ) where
   counts : (p : ℕ) (it : Item) → stands (drop p (cells bs)) ≡ Some it → alike (counted it) (drop p (cells bs)) (drop p (cells bs)) ≡ true

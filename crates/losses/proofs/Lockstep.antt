@@ -1,14 +1,16 @@
 -- Two walks, item by item.
-use Rattle.std.proofs.Common.{◌≡◌, ℕ, zero, suc, ◌+◌, ◌≤◌, max, Bool, true, false, cond, not, eqb, List, [], ◌∷◌, length, take, drop, Some, None, Option, sym, refl, ap, ◌∙◌, subst, arith, length-drop}
+use Rattle.std.proofs.Common.{◌≡◌, ℕ, zero, suc, ◌+◌, ◌<◌, ◌≤◌, max, Bool, true, false, cond, not, eqb, List, [], ◌∷◌, length, map, take, drop, Some, None, Option, sym, refl, ap, ◌∙◌, subst, arith, length-drop}
 use Rattle.std.proofs.lemmas.Bool.{leb-true, eqb-true, eq-eqb, ne_eqb, cond-true, cond-false, both_ways, false≢true}
 use Rattle.flash.specs.Cells.{Cell}
 use Rattle.flash.specs.declared.place.Place.{Place}
 use Rattle.nodes.specs.Fields.{le16, le32}
 use Rattle.nodes.specs.Items.{Item, kind, totlen, is_word, reach, header, stands, size}
-use Rattle.nodes.specs.Reading.{first_of, behind}
+use Rattle.nodes.specs.Reading.{rest, found_at, to_find, first_of, behind}
 use Rattle.nodes.specs.Records.{Entry, Content, read_entry, read_content}
 use Rattle.nodes.specs.Views.{View, zero_word, marker_of, padding_of, unknown_of, entry_of, content_of, view}
-use Rattle.nodes.specs.Seen.{seen}
+use Rattle.nodes.specs.declared.image.Image.{Image}
+use Rattle.nodes.specs.declared.reader.Reader.{Reader}
+use Rattle.nodes.specs.Image.{seen_in}
 use Rattle.nodes.specs.Walk.{walk_in, walk_from, walk, met, marked, marker, alike}
 use Rattle.nodes.proofs.Standing.{Reads, stands_reads, sized, at_all, headed}
 use Rattle.nodes.proofs.Walks.{item_at, none_at}
@@ -20,8 +22,8 @@ use Rattle.losses.specs.Left.{Leading}
 use Rattle.losses.proofs.Leaving.{left, elsewhere_nothing, start_nothing, parting_grows, kept}
 use Rattle.losses.proofs.Fairness.{counted_fits}
 
--- whether the items met are the first of those that were to stand, by the bytes that count
-abbrev pub judged : List Cell → List Cell → List (ℕ × Item) → List (ℕ × Item) → Bool
+-- whether the items met are the first of those that were to stand, by the bytes that count: of those met only the number counts
+abbrev pub judged : {Y : Type 0} → List Cell → List Cell → List (ℕ × Item) → List Y → Bool
 judged want got [] [] = true
 judged want got (x ∷ xs) [] = true
 judged want got [] (y ∷ ys) = false
@@ -30,7 +32,7 @@ judged want got (x ∷ xs) (y ∷ ys) = cond (alike (counted x.1) (drop x.0 want
 -- what counts of each item lies in a block of n bytes, and is what the code takes it for
 abbrev pub Ready : ℕ → List (ℕ × Item) → Type 0
 Ready n [] = Unit {0}
-Ready n (x ∷ xs) = (x.0 + view_counted (view x.1) ≤ n) × (view_counted (view x.1) ≡ counted x.1) × Ready n xs
+Ready n (x ∷ xs) = (x.0 + view_counted (view x.1) ≤ n) × (0 < view_counted (view x.1)) × (view_counted (view x.1) ≡ counted x.1) × Ready n xs
 
 -- ─── what counts ───
 
@@ -72,7 +74,7 @@ ready_in (suc f) xs p = go (ready_in f xs) (stands (drop p xs)) refl
     go below (Some it) s =
         let r = stands_reads (drop p xs) it s in
         let v = view_counts (drop p xs) it r in
-        (omega (arith, v, counted_fits (drop p xs) it r, sized (drop p xs) it r, length-drop p xs), v, below (p + size it))
+        (omega (arith, v, counted_fits (drop p xs) it r, sized (drop p xs) it r, length-drop p xs), omega (arith, v, counted_fits (drop p xs) it r), v, below (p + size it))
 
 pub ready_walk : (xs : List Cell) → Ready (length xs) (walk xs)
 unfolding walk walk_from
@@ -84,9 +86,9 @@ ready_walk xs = go (marked xs)
 
 -- ─── the two walks judge fairness ───
 
-none_left : (want got : List Cell) (xs : List (ℕ × Item)) → judged want got xs [] ≡ true
-none_left want got [] = refl
-none_left want got (x ∷ xs) = refl
+none_left : (Y : Type 0) (want got : List Cell) (xs : List (ℕ × Item)) → judged {Y = Y} want got xs [] ≡ true
+none_left Y want got [] = refl
+none_left Y want got (x ∷ xs) = refl
 
 from_marker : (xs : List Cell) → marked xs ≡ true → walk xs ≡ (0, marker) ∷ walk_from xs (0 + size marker)
 from_marker xs t = walk_marked xs t ∙ item_at xs 0 marker (marker_stands xs t)
@@ -159,7 +161,7 @@ module _ (want got : List Cell) (long : length want ≡ length got) where
   judged_fair = go (marked want) refl (marked got) refl
     where
       go : (a : Bool) → marked want ≡ a → (b : Bool) → marked got ≡ b → judged want got (walk want) (walk got) ≡ nothing_at (parting want got 0 (walk want)) got
-      go a t false u = ap (judged want got (walk want)) (walk_bare got u) ∙ none_left want got (walk want) ∙ sym (bare u a t)
+      go a t false u = ap (judged want got (walk want)) (walk_bare got u) ∙ none_left _ want got (walk want) ∙ sym (bare u a t)
       go false t true u =
           ap (λ l. judged want got l (walk got)) (walk_bare want t) ∙ ap (judged want got []) (from_marker got u)
           ∙ sym (ap (λ l. nothing_at (parting want got 0 l) got) (walk_bare want t) ∙ start_nothing got ∙ ap not u)
@@ -170,43 +172,60 @@ module _ (want got : List Cell) (long : length want ≡ length got) where
 
 -- ─── the code's start ───
 
-pub begun : (fs gs : List Bool) (bs cs : List ℕ) (xs ys : List (ℕ × Item)) → length bs ≡ length cs → xs ≡ walk (seen fs bs) → ys ≡ walk (seen gs cs)
-    → (judged (seen fs bs) (seen gs cs) xs ys ≡ fair (seen fs bs) (walk (seen fs bs)) (seen gs cs)) × Ready (length bs) xs
-begun fs gs bs cs xs ys l e h = (
-  ap (λ z. judged (seen fs bs) (seen gs cs) z ys) e ∙ ap (judged (seen fs bs) (seen gs cs) (walk (seen fs bs))) h
-      ∙ judged_fair (seen fs bs) (seen gs cs) (length_seen fs 0 bs ∙ l ∙ sym (length_seen gs 0 cs)),
-  subst (Ready (length bs)) (sym e) (subst (λ n. Ready n (walk (seen fs bs))) (length_seen fs 0 bs) (ready_walk (seen fs bs))),
-)
+-- what the code keeps true of the items that were to stand and those met, of which it has still to see xs and ys
+pub record Judging (want got : Image) (xs : List (ℕ × Item)) (ys : List (Place × View)) : Type 0 where
+  pub judges : judged (seen_in want) (seen_in got) xs ys ≡ fair (seen_in want) (walk (seen_in want)) (seen_in got)
+  pub ready : Ready (length want.bytes.now) xs
+
+as_found : (want got : List Cell) (b : ℕ) (xs ys : List (ℕ × Item)) → judged want got xs (map (found_at b) ys) ≡ judged want got xs ys
+as_found want got b [] [] = refl
+as_found want got b (x ∷ xs) [] = refl
+as_found want got b [] (y ∷ ys) = refl
+as_found want got b (x ∷ xs) (y ∷ ys) = ap (λ t. cond (alike (counted x.1) (drop x.0 want) (drop x.0 got)) t false) (as_found want got b xs ys)
+
+pub begun : (want got : Image) (before after : Reader) → length want.bytes.now ≡ length got.bytes.now → rest before ≡ walk (seen_in want) → rest after ≡ walk (seen_in got) → Judging want got (rest before) (to_find after)
+begun want got before after l e h =
+    let long = length_seen want.readable.now 0 want.bytes.now in
+    record {
+      judges =
+          as_found (seen_in want) (seen_in got) after.block (rest before) (rest after)
+          ∙ ap (λ z. judged (seen_in want) (seen_in got) z (rest after)) e ∙ ap (judged (seen_in want) (seen_in got) (walk (seen_in want))) h
+          ∙ judged_fair (seen_in want) (seen_in got) (long ∙ l ∙ sym (length_seen got.readable.now 0 got.bytes.now));
+      ready = subst (Ready (length want.bytes.now)) (sym e) (subst (λ n. Ready n (walk (seen_in want))) long (ready_walk (seen_in want)));
+    }
 
 -- ─── a turn of the code ───
 
--- an item at p of which k bytes count was to stand, and something is met; t is the answer
-pub record Turn (want got : List Cell) (n : ℕ) (xs ys : List (ℕ × Item)) (p k : ℕ) (t : Bool) : Type 0 where
-  pub within : p + k ≤ n
-  pub again : true ≡ alike k (drop p want) (drop p got) → (judged want got (behind xs) (behind ys) ≡ t) × Ready n (behind xs)
-  pub stop : false ≡ alike k (drop p want) (drop p got) → false ≡ t
+-- an item at p of which k bytes count was to stand, and something is met
+pub record Turn (want got : Image) (xs : List (ℕ × Item)) (ys : List (Place × View)) (p k : ℕ) : Type 0 where
+  pub within : p + k ≤ length want.bytes.now
+  pub some : 0 < k
+  pub again : true ≡ alike k (drop p (seen_in want)) (drop p (seen_in got)) → Judging want got xs ys
+  pub stop : false ≡ alike k (drop p (seen_in want)) (drop p (seen_in got)) → false ≡ fair (seen_in want) (walk (seen_in want)) (seen_in got)
 
-module _ (want got : List Cell) (n b c : ℕ) where
-  pub none_met : (xs ys : List (ℕ × Item)) (t : Bool) → (judged want got xs ys ≡ t) × Ready n xs → None ≡ first_of b ys → true ≡ t
-  none_met xs [] t i h = sym (none_left want got xs) ∙ i.0
-  none_met xs (y ∷ ys) t i h = absurd (let z : ◌≡◌ {A = ℕ} 0 1 = cc in omega arith)
+module _ (want got : Image) where
+  pub none_met : {xs : List (ℕ × Item)} {ys : List (Place × View)} → Judging want got xs ys → ys ≡ [] → true ≡ fair (seen_in want) (walk (seen_in want)) (seen_in got)
+  none_met {xs = xs} i e =
+      sym (none_left _ (seen_in want) (seen_in got) xs) ∙ sym (ap (judged (seen_in want) (seen_in got) xs) e) ∙ i.judges
 
-  pub too_many : (xs ys : List (ℕ × Item)) (t : Bool) (y : Place × View) → (judged want got xs ys ≡ t) × Ready n xs → Some y ≡ first_of b ys → None ≡ first_of c xs → false ≡ t
-  too_many [] (z ∷ ys) t y i h k = i.0
-  too_many [] [] t y i h k = absurd (let z : ◌≡◌ {A = ℕ} 0 1 = cc in omega arith)
-  too_many (x ∷ xs) ys t y i h k = absurd (let z : ◌≡◌ {A = ℕ} 0 1 = cc in omega arith)
+  pub too_many : {xs : List (ℕ × Item)} {ys zs : List (Place × View)} {y : Place × View} → Judging want got xs ys → ys ≡ y ∷ zs → (b : ℕ) → None ≡ first_of b xs → false ≡ fair (seen_in want) (walk (seen_in want)) (seen_in got)
+  too_many {xs = []} i e b h = sym (ap (judged (seen_in want) (seen_in got) []) e) ∙ i.judges
+  too_many {xs = x ∷ xs} i e b h = cc
 
-  pub turn_of : (xs ys : List (ℕ × Item)) (t : Bool) (y : Place × View) (q : Place) (v : View) (k : ℕ) → (judged want got xs ys ≡ t) × Ready n xs
-      → Some y ≡ first_of b ys → Some (q, v) ≡ first_of c xs → k ≡ view_counted v → Turn want got n xs ys q.offset k t
-  turn_of xs [] t y q v k i h f d = absurd (let z : ◌≡◌ {A = ℕ} 0 1 = cc in omega arith)
-  turn_of [] (z ∷ ys) t y q v k i h f d = absurd (let z : ◌≡◌ {A = ℕ} 0 1 = cc in omega arith)
-  turn_of (x ∷ xs) (z ∷ ys) t y q v k i h f d = record {
-    within = omega (arith, i.1.0, at, is);
-    again = λ a. (ap (λ s. cond s (judged want got xs ys) false) (a ∙ same) ∙ i.0, i.1.2);
-    stop = λ a. ap (λ s. cond s (judged want got xs ys) false) (a ∙ same) ∙ i.0;
+  pub turn_of : {xs xs' : List (ℕ × Item)} {ys ys' : List (Place × View)} {y : Place × View} {k : ℕ} {q : Place} {v : View} (b : ℕ)
+      → Judging want got xs ys → ys ≡ y ∷ ys' → Some (q, v) ≡ first_of b xs → xs' ≡ behind xs → k ≡ view_counted v → Turn want got xs' ys' q.offset k
+  turn_of {xs = []} b i e f h d = cc
+  turn_of {xs = x ∷ xs} {ys = ys} {ys' = ys'} {k = k} {q = q} {v = v} b i e f h d = record {
+    within = omega (arith, i.ready.0, at, is);
+    some = omega (arith, i.ready.1, is);
+    again = λ a. record {
+      judges = ap (λ z. judged (seen_in want) (seen_in got) z ys') h ∙ ap (λ s. cond s (judged (seen_in want) (seen_in got) xs ys') false) (a ∙ same) ∙ here;
+      ready = subst (Ready (length want.bytes.now)) (sym h) i.ready.3;
+    };
+    stop = λ a. ap (λ s. cond s (judged (seen_in want) (seen_in got) xs ys') false) (a ∙ same) ∙ here;
   }
     where
-      pair : ◌≡◌ {A = Place × View} (q, v) (record { block = c; offset = x.0 }, view x.1)
+      pair : ◌≡◌ {A = Place × View} (q, v) (found_at b x)
       pair = cc
 
       at : q.offset ≡ x.0
@@ -215,26 +234,27 @@ module _ (want got : List Cell) (n b c : ℕ) where
       is : k ≡ view_counted (view x.1)
       is = d ∙ ap (λ (w : Place × View). view_counted w.1) pair
 
-      same : alike k (drop q.offset want) (drop q.offset got) ≡ alike (counted x.1) (drop x.0 want) (drop x.0 got)
-      same = ap (λ p. alike k (drop p want) (drop p got)) at ∙ ap (λ k. alike k (drop x.0 want) (drop x.0 got)) (is ∙ i.1.1)
+      same : alike k (drop q.offset (seen_in want)) (drop q.offset (seen_in got)) ≡ alike (counted x.1) (drop x.0 (seen_in want)) (drop x.0 (seen_in got))
+      same =
+          ap (λ p. alike k (drop p (seen_in want)) (drop p (seen_in got))) at ∙ ap (λ k. alike k (drop x.0 (seen_in want)) (drop x.0 (seen_in got))) (is ∙ i.ready.2)
 
-  -- the same, where the items behind are known by equations
-  pub next_turn : (xs ys xs' ys' : List (ℕ × Item)) (p k : ℕ) (t : Bool) → Turn want got n xs ys p k t → xs' ≡ behind xs → ys' ≡ behind ys
-      → true ≡ alike k (drop p want) (drop p got) → (judged want got xs' ys' ≡ t) × Ready n xs'
-  next_turn xs ys xs' ys' p k t r e h a =
-      let g = r.again a in
-      (ap (λ z. judged want got z ys') e ∙ ap (judged want got (behind xs)) h ∙ g.0, subst (Ready n) (sym e) g.1)
+      here : cond (alike (counted x.1) (drop x.0 (seen_in want)) (drop x.0 (seen_in got))) (judged (seen_in want) (seen_in got) xs ys') false ≡ fair (seen_in want) (walk (seen_in want)) (seen_in got)
+      here = sym (ap (judged (seen_in want) (seen_in got) (x ∷ xs)) e) ∙ i.judges
 
 -- ─── the answer ───
 
-module _ (fs gs : List Bool) (bs cs : List ℕ) where
-  pub lengths_differ : (length bs ≡ length cs → ⊥) → false ≡ loss_fair (seen fs bs) (seen gs cs)
-  unfolding loss_fair
-  lengths_differ ne = sym (cond-false _ _ _ (ne_eqb _ _ (λ e. ne (sym (length_seen fs 0 bs) ∙ e ∙ length_seen gs 0 cs))))
+module _ (want got : Image) where
+  long : (length want.bytes.now ≡ length got.bytes.now) → length (seen_in want) ≡ length (seen_in got)
+  long l = length_seen want.readable.now 0 want.bytes.now ∙ l ∙ sym (length_seen got.readable.now 0 got.bytes.now)
 
-  pub lengths_same : (b : Bool) → length bs ≡ length cs → b ≡ fair (seen fs bs) (walk (seen fs bs)) (seen gs cs) → b ≡ loss_fair (seen fs bs) (seen gs cs)
+  pub lengths_differ : (length want.bytes.now ≡ length got.bytes.now → ⊥) → false ≡ loss_fair (seen_in want) (seen_in got)
   unfolding loss_fair
-  lengths_same b l e = e ∙ sym (cond-true _ _ _ (eq-eqb _ _ (length_seen fs 0 bs ∙ l ∙ sym (length_seen gs 0 cs))))
+  lengths_differ ne =
+      sym (cond-false _ _ _ (ne_eqb _ _ (λ e. ne (sym (length_seen want.readable.now 0 want.bytes.now) ∙ e ∙ length_seen got.readable.now 0 got.bytes.now))))
+
+  pub lengths_same : (b : Bool) → length want.bytes.now ≡ length got.bytes.now → b ≡ fair (seen_in want) (walk (seen_in want)) (seen_in got) → b ≡ loss_fair (seen_in want) (seen_in got)
+  unfolding loss_fair
+  lengths_same b l e = e ∙ sym (cond-true _ _ _ (eq-eqb _ _ (long l)))
 
 -- what a fair loss of a block leaves
 pub fair_left : (want got : List Cell) → loss_fair want got ≡ true → Leading (walk got) (walk want)

@@ -1,6 +1,6 @@
 // Whether a loss is fair.
 ghost use Rattle.std.specs.Prelude.{◌≡◌, true, length};
-ghost use Rattle.nodes.specs.Seen.{seen};
+ghost use Rattle.nodes.specs.Image.{seen_in};
 ghost use Rattle.nodes.specs.Walk.{walk};
 ghost use Rattle.losses.specs.Fair.{fair, loss_fair};
 ghost use Rattle.losses.specs.Left.{Leading};
@@ -11,26 +11,20 @@ ghost use Rattle.losses.specs.Laws.{HeldFinished, ProgramFinishes, RestartShows,
 ghost use Rattle.losses.specs.Examples.{Examples};
 
 use crate::compare::{are_same, counted_of};
+use nodes::image::Image;
 use nodes::reader::Reader;
 
 // Whether nothing is met in `got` but the first items of `want`, item by item.
-fn only_first<'a>(
-    want: &'a [u8],
-    want_flags: &'a [bool],
-    got: &'a [u8],
-    got_flags: &'a [bool],
-) -> bool
-    requires { length want.now ≡ length got.now }
-    ensures { result ≡ fair (seen want_flags.now want.now) (walk (seen want_flags.now want.now)) (seen got_flags.now got.now) }
+fn only_first(want: Image<'_>, got: Image<'_>) -> bool
+    requires { length want.bytes.now ≡ length got.bytes.now }
+    ensures { result ≡ fair (seen_in want.entry) (walk (seen_in want.entry)) (seen_in got.entry) }
 {
-    let mut before = Reader::new(0, want, want_flags);
-    let mut after = Reader::new(0, got, got_flags);
-    while let Some(_met) = after.next() {
+    let mut before = Reader::new(0, want);
+    for _met in Reader::new(0, got) {
         let Some(meant) = before.next() else {
             return false;
         };
-        let n = counted_of(meant.item);
-        if !are_same(want, want_flags, got, got_flags, meant.place.offset, n) {
+        if !are_same(want, got, meant.place.offset, counted_of(meant.item)) {
             return false;
         }
     }
@@ -38,26 +32,17 @@ fn only_first<'a>(
 }
 
 // The answer of `is_fair`.
-fn decide<'a>(want: &'a [u8], want_flags: &'a [bool], got: &'a [u8], got_flags: &'a [bool]) -> bool
-    ensures { result ≡ loss_fair (seen want_flags.now want.now) (seen got_flags.now got.now) }
+fn decide(want: Image<'_>, got: Image<'_>) -> bool
+    ensures { result ≡ loss_fair (seen_in want.entry) (seen_in got.entry) }
 {
-    if want.len() != got.len() {
-        return false;
-    }
-    only_first(want, want_flags, got, got_flags)
+    want.bytes.len() == got.bytes.len() && only_first(want, got)
 }
 
-// Whether a loss of power was fair that left `got` on a block on which `want` was to stand, each with the flags of its pages
-// of 4 bytes that can be read. If so, the items met in `got` are the first of those in `want`. Rows of different lengths are
-// not of one block: for these it is false.
-pub fn is_fair<'a>(
-    want: &'a [u8],
-    want_flags: &'a [bool],
-    got: &'a [u8],
-    got_flags: &'a [bool],
-) -> bool
-    ensures answer { result ≡ loss_fair (seen want_flags.now want.now) (seen got_flags.now got.now) }
-    ensures left { result ≡ true → Leading (walk (seen got_flags.now got.now)) (walk (seen want_flags.now want.now)) }
+// Whether a loss of power was fair that left `got` on a block on which `want` was to stand. If so, the items met in `got` are
+// the first of those in `want`. Rows of different lengths are not of one block: for these it is false.
+pub fn is_fair(want: Image<'_>, got: Image<'_>) -> bool
+    ensures answer { result ≡ loss_fair (seen_in want.entry) (seen_in got.entry) }
+    ensures left { result ≡ true → Leading (walk (seen_in got.entry)) (walk (seen_in want.entry)) }
     ensures rows { RowsLeft }
     ensures kept { RowsKept }
     ensures nothing { NothingLost }
@@ -75,5 +60,5 @@ pub fn is_fair<'a>(
     ensures shows { RestartShows }
     ensures examples { Examples }
 {
-    decide(want, want_flags, got, got_flags)
+    decide(want, got)
 }

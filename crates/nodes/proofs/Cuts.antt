@@ -1,7 +1,12 @@
 -- The cells of a block, from the bytes as they were read and the flags of its pages.
-use Rattle.std.proofs.Common.{◌≡◌, ℕ, zero, suc, ◌+◌, ◌*◌, ◌/◌, ◌<◌, ◌≤◌, Bool, true, false, cond, List, [], ◌∷◌, length, get_or, take, drop, refl, ap, ◌∙◌, ⊎_elim, arith}
+use Rattle.std.proofs.Common.{◌≡◌, ℕ, zero, suc, ◌+◌, ◌-◌, ◌*◌, ◌/◌, ◌<◌, ◌≤◌, Bool, true, false, cond, List, [], ◌∷◌, length, get_or, take, drop, Some, None, Option, MatchOption, Bor, sym, refl, ap, ◌∙◌, ⊎_elim, arith}
+use Rattle.std.proofs.lemmas.List.{get_or-drop, get_or-take, get_or_past}
+use Rattle.std.proofs.lemmas.List.Recursion.{and_at}
+use Rattle.std.specs.Int.{div_ceil}
+use Rattle.std.specs.List.{list_all, slice_range}
+use Rattle.std.specs.Slice.{IsGetRangeResult}
 use Rattle.std.proofs.lemmas.Bool.{cond-true, cond-false, cases_lt, true≢false, false≢true}
-use Rattle.flash.specs.Cells.{byte, lost, cells, front}
+use Rattle.flash.specs.Cells.{byte, lost, front}
 use Rattle.nodes.specs.Seen.{seen_from, readable}
 
 pub length_seen : (fs : List Bool) (at : ℕ) (bs : List ℕ) → length (seen_from fs at bs) ≡ length bs
@@ -47,13 +52,13 @@ falls_short fs at (suc n) (b ∷ bs) e = go (get_or fs (at / 4) false) (falls_sh
     go false below e = omega arith
 
 -- the flags of all words that the bytes lie in
-pub readable_all : (fs : List Bool) (at n : ℕ) → ((k : ℕ) → at / 4 ≤ k → 4 * k < at + n → get_or fs k false ≡ true) → readable fs at n ≡ true
+readable_all : (fs : List Bool) (at n : ℕ) → ((k : ℕ) → at / 4 ≤ k → 4 * k < at + n → get_or fs k false ≡ true) → readable fs at n ≡ true
 unfolding readable
 readable_all fs at zero h = refl
 readable_all fs at (suc n) h =
     cond-true _ _ _ (h (at / 4) (omega arith) (omega arith)) ∙ readable_all fs (suc at) n (λ k l m. h k (omega arith) (omega arith))
 
-pub readable_not : (fs : List Bool) (at n k : ℕ) → 0 < n → at / 4 ≤ k → 4 * k < at + n → get_or fs k false ≡ false → readable fs at n ≡ false
+readable_not : (fs : List Bool) (at n k : ℕ) → 0 < n → at / 4 ≤ k → 4 * k < at + n → get_or fs k false ≡ false → readable fs at n ≡ false
 unfolding readable
 readable_not fs at zero k p l m e = absurd (omega arith)
 readable_not fs at (suc n) k p l m e =
@@ -66,12 +71,30 @@ readable_not fs at (suc n) k p l m e =
     go true h = h
     go false h = refl
 
-pub take_seen : (fs : List Bool) (at n : ℕ) (bs : List ℕ) → n ≤ length (front (seen_from fs at bs)) → take n (seen_from fs at bs) ≡ cells (take n bs)
-unfolding seen_from front
-take_seen fs at zero bs h = refl
-take_seen fs at (suc n) [] h = refl
-take_seen fs at (suc n) (b ∷ bs) h = go (get_or fs (at / 4) false) (take_seen fs (suc at) n bs) h
-  where
-    go : (t : Bool) → (n ≤ length (front (seen_from fs (suc at) bs)) → take n (seen_from fs (suc at) bs) ≡ cells (take n bs)) → suc n ≤ length (front (cond t (byte b) lost ∷ seen_from fs (suc at) bs)) → cond t (byte b) lost ∷ take n (seen_from fs (suc at) bs) ≡ byte b ∷ cells (take n bs)
-    go true below h = ap (λ l. byte b ∷ l) (below (omega arith))
-    go false below h = absurd (omega arith)
+-- the flags of the words from a up to b, as the code looks at them
+unset : (xs : List Bool) → list_all (λ x. x) xs ≡ false → (k : ℕ) × (k < length xs) × (get_or xs k false ≡ false)
+unset [] e = absurd (true≢false e)
+unset (false ∷ xs) e = (0, omega arith, refl)
+unset (true ∷ xs) e = let h = unset xs e in (suc h.0, omega (arith, h.1), h.2)
+
+in_part : (fs : List Bool) (a b k : ℕ) → k < b - a → get_or (slice_range fs a b) k false ≡ get_or fs (a + k) false
+in_part fs a b k l = get_or-take (b - a) (drop a fs) k false l ∙ get_or-drop a fs k false
+
+module _ (fs : List Bool) (at n a b : ℕ) (some : 0 < n) (low : a ≡ at / 4) (high : b ≡ div_ceil (at + n) 4) where
+  words_readable : (part : List Bool) → length part + a ≡ b → part ≡ slice_range fs a b → (r : Bool) → list_all (λ x. x) part ≡ r → r ≡ readable fs at n
+  words_readable part l p true e = sym (readable_all fs at n each)
+    where
+      each : (k : ℕ) → at / 4 ≤ k → 4 * k < at + n → get_or fs k false ≡ true
+      each k m h =
+          let i : a + (k - a) ≡ k = omega arith in
+          ap (λ j. get_or fs j false) (sym i) ∙ sym (in_part fs a b (k - a) (omega arith)) ∙ ap (λ xs. get_or xs (k - a) false) (sym p)
+          ∙ and_at (list_all (λ x. x)) (λ x. x) refl (λ _ _. refl) part (k - a) false (omega arith) e
+  words_readable part l p false e =
+      let u = unset part e in
+      sym (readable_not fs at n (a + u.0) some (omega arith) (omega (arith, u.1)) (sym (in_part fs a b u.0 (omega (arith, u.1))) ∙ ap (λ xs. get_or xs u.0 false) (sym p) ∙ u.2))
+
+  pub flags_readable : (o : Option (Bor (List Bool))) (r : Bool) → IsGetRangeResult fs a b o → MatchOption o (r ≡ false) (λ part. r ≡ list_all (λ x. x) part.now) → r ≡ readable fs at n
+  flags_readable None r g h =
+      ⊎_elim (λ (l : b < a). absurd (omega arith))
+      (λ (l : length fs < b). h ∙ sym (readable_not fs at n (b - 1) some (omega arith) (omega arith) (get_or_past fs (b - 1) false (omega arith)))) g.0
+  flags_readable (Some part) r g h = words_readable part.now g.0.3 g.0.2 r (sym h)

@@ -1,7 +1,8 @@
 -- What stands at a place, as the reader decides it step by step from the bytes of the block from there on.
-use Rattle.std.proofs.Common.{◌≡◌, ℕ, ◌<◌, ◌≤◌, Bool, true, false, cond, eqb, leb, List, length, take, Some, None, Option, sym, refl, ap, ◌∙◌, arith, length-take}
-use Rattle.std.proofs.lemmas.List.{length-take-le}
-use Rattle.std.proofs.lemmas.Bool.{leb-true, leb-false, le-leb, lt-leb, eq-eqb, cond-true, cond-false}
+use Rattle.std.proofs.Common.{◌≡◌, ℕ, ◌<◌, ◌≤◌, Bool, true, false, cond, eqb, leb, List, length, take, Some, None, Option, Bor, sym, refl, ap, ◌∙◌, subst, arith, length-take}
+use Rattle.std.proofs.lemmas.List.{length-take-le, take-take}
+use Rattle.std.proofs.lemmas.Bool.{leb-true, le-leb, lt-leb, eq-eqb, ne_eqb, cond-true, cond-false}
+use Rattle.std.specs.Bool.{then_some}
 use Rattle.flash.specs.Cells.{front}
 use Rattle.kinds.specs.declared.Kind.TheVariants as kinds
 use Rattle.kinds.specs.Kinds.{kind_with}
@@ -10,89 +11,100 @@ use Rattle.nodes.specs.Items.{Item, kind, totlen, is_word, reach, header, entry,
 use Rattle.nodes.specs.Records.{Entry, Content, read_entry, read_content}
 use Rattle.nodes.specs.Headers.{Head, head, passing, Headed}
 use Rattle.nodes.specs.Passing.{entry_in, content_in}
-use Rattle.nodes.specs.Seen.{seen_from, readable, reaching}
+use Rattle.nodes.specs.Seen.{seen_from, readable, IsRead}
+use Rattle.nodes.specs.Offences.{either}
 use Rattle.nodes.specs.Views.{View, zero_word, marker_of, padding_of, unknown_of, entry_of, content_of, view, viewed, sized}
+use Rattle.nodes.specs.declared.tail.Tail.{Tail}
+use Rattle.nodes.specs.Tail.{seen_behind}
 use Rattle.nodes.proofs.Standing.{reach_more, at_all}
 use Rattle.nodes.proofs.Cuts.{length_seen, front_seen, reaches, falls_short}
-use Rattle.nodes.proofs.Fronts.{le32_cut, le16_cut, word_cut, body, none_short, zero_offered, none_header, none_bad, plain_offered, entry_offered, content_offered, offered_cut}
+use Rattle.nodes.proofs.Fronts.{le32_cut, le16_cut, word_cut, body, none_short, zero_offered, none_header, none_bad, plain_offered, node_offered, offered_cut}
 use Rattle.nodes.proofs.Viewed.{kind_known, kind_unknown, view_word, view_kind, view_unknown, size_word, size_other}
 
 -- how many bytes from a place on can be read
 abbrev got : List Bool → ℕ → List ℕ → ℕ
 got fs at bs = length (front (seen_from fs at bs))
 
-pub got_within : (fs : List Bool) (at : ℕ) (bs : List ℕ) → got fs at bs ≤ length bs
+got_within : (fs : List Bool) (at : ℕ) (bs : List ℕ) → got fs at bs ≤ length bs
 got_within fs at bs = omega (arith, ap length (front_seen fs at bs), length-take (got fs at bs) bs)
+
+front_part : (fs : List Bool) (at : ℕ) (bs : List ℕ) (n : ℕ) → n ≤ got fs at bs → take n (front (seen_from fs at bs)) ≡ take n bs
+front_part fs at bs n h = ap (take n) (front_seen fs at bs) ∙ take-take n (got fs at bs) bs h
 
 stands_is : (fs : List Bool) (at : ℕ) (bs : List ℕ) → stands (seen_from fs at bs) ≡ offered (length bs) (take (got fs at bs) bs)
 unfolding stands
 stands_is fs at bs =
     ap (λ n. offered n (front (seen_from fs at bs))) (length_seen fs at bs) ∙ ap (offered (length bs)) (front_seen fs at bs)
 
--- the test that the code makes
-pub reaching_is : (fs : List Bool) (at : ℕ) (bs : List ℕ) (n : ℕ) → n ≤ length bs → readable fs at n ≡ reaching fs at bs n
-reaching_is fs at bs n h = go (readable fs at n) refl
+-- the code's answer to whether the first n bytes are there and can be read
+pub front_none : (t : Tail) (n : ℕ) (r : Option (Bor (List ℕ))) → r ≡ None → length t.bytes.now < n → IsRead (seen_behind t) n r
+front_none t n r e l =
+    subst (IsRead (seen_behind t) n) (sym e) (let w = got_within t.readable.now t.at t.bytes.now in omega arith)
+
+pub front_some : (t : Tail) (n : ℕ) (r : Option (Bor (List ℕ))) (b : Bool) (f : Bor (List ℕ)) → r ≡ then_some b f → b ≡ readable t.readable.now t.at n → n ≤ length t.bytes.now → f.now ≡ take n t.bytes.now → IsRead (seen_behind t) n r
+front_some t n r b f e h l k = subst (IsRead (seen_behind t) n) (sym e) (go b (sym h))
   where
-    go : (t : Bool) → readable fs at n ≡ t → t ≡ reaching fs at bs n
-    go true e = sym (le-leb _ _ (reaches fs at n bs h e))
-    go false e = sym (lt-leb _ _ (falls_short fs at n bs e))
+    go : (b : Bool) → readable t.readable.now t.at n ≡ b → IsRead (seen_behind t) n (then_some b f)
+    go true e = let w = reaches t.readable.now t.at n t.bytes.now l e in (w, k ∙ sym (front_part t.readable.now t.at t.bytes.now n w))
+    go false e = falls_short t.readable.now t.at n t.bytes.now e
 
-pub reaching_not : (fs : List Bool) (at : ℕ) (bs : List ℕ) (n : ℕ) → length bs < n → leb n (length bs) ≡ reaching fs at bs n
-reaching_not fs at bs n h = lt-leb _ _ h ∙ sym (lt-leb n (got fs at bs) (let w = got_within fs at bs in omega arith))
+-- the word w that the code reads of the first four bytes
+module _ (fs : List Bool) (at : ℕ) (bs : List ℕ) {word : List ℕ} (f : (4 ≤ got fs at bs) × (word ≡ take 4 (front (seen_from fs at bs)))) where
+  pub word_long : 4 ≤ length word
+  word_long = omega (arith, f.0, ap length f.1, length-take-le 4 (front (seen_from fs at bs)) f.0)
 
-pub reaching_length : (fs : List Bool) (at : ℕ) (bs : List ℕ) (n : ℕ) → reaching fs at bs n ≡ true → n ≤ length bs
-reaching_length fs at bs n e = let r = leb-true _ _ e in let w = got_within fs at bs in omega arith
+  pub word_read : {w : ℕ} → w ≡ le32 word 0 → w ≡ le32 bs 0
+  word_read r = r ∙ ap (λ s. le32 s 0) (f.1 ∙ front_part fs at bs 4 f.0) ∙ le32_cut bs 4 0 (omega arith)
 
-pub none_word : (fs : List Bool) (at : ℕ) (bs : List ℕ) → reaching fs at bs 4 ≡ false → None ≡ sized (stands (seen_from fs at bs))
-none_word fs at bs e = sym (ap sized (stands_is fs at bs ∙ none_short (length bs) bs (got fs at bs) (leb-false _ _ e)))
+  pub word_other : {w : ℕ} → w ≡ le32 word 0 → (w ≡ 0 → ⊥) → is_word bs ≡ false
+  word_other r n = ne_eqb _ 0 (λ z. n (word_read r ∙ z))
 
-pub word_sized : (fs : List Bool) (at : ℕ) (bs : List ℕ) → reaching fs at bs 4 ≡ true → le32 bs 0 ≡ 0 → Some (zero_word, 4) ≡ sized (stands (seen_from fs at bs))
+pub none_word : (fs : List Bool) (at : ℕ) (bs : List ℕ) → got fs at bs < 4 → None ≡ sized (stands (seen_from fs at bs))
+none_word fs at bs e = sym (ap sized (stands_is fs at bs ∙ none_short (length bs) bs (got fs at bs) e))
+
+pub word_sized : (fs : List Bool) (at : ℕ) (bs : List ℕ) → 4 ≤ got fs at bs → le32 bs 0 ≡ 0 → Some (zero_word, 4) ≡ sized (stands (seen_from fs at bs))
 word_sized fs at bs r z =
     let w : is_word bs ≡ true = eq-eqb _ _ z in
     let c : is_word (take 4 bs) ≡ true = word_cut bs 4 (omega arith) ∙ w in
-    sym (ap sized (stands_is fs at bs ∙ zero_offered (length bs) bs (got fs at bs) (leb-true _ _ r) (got_within fs at bs) w)
+    sym (ap sized (stands_is fs at bs ∙ zero_offered (length bs) bs (got fs at bs) r (got_within fs at bs) w)
     ∙ ap (λ v. Some (v, size (take 4 bs))) (view_word (take 4 bs) c) ∙ ap (λ n. Some (zero_word, n)) (size_word (take 4 bs) c))
 
-pub none_head : (fs : List Bool) (at : ℕ) (bs : List ℕ) → reaching fs at bs 4 ≡ true → is_word bs ≡ false → reaching fs at bs 12 ≡ false → None ≡ sized (stands (seen_from fs at bs))
+pub none_head : (fs : List Bool) (at : ℕ) (bs : List ℕ) → 4 ≤ got fs at bs → is_word bs ≡ false → got fs at bs < 12 → None ≡ sized (stands (seen_from fs at bs))
 none_head fs at bs r w e =
-    sym (ap sized (stands_is fs at bs ∙ none_header (length bs) bs (got fs at bs) (leb-true _ _ r) (leb-false _ _ e) w))
+    sym (ap sized (stands_is fs at bs ∙ none_header (length bs) bs (got fs at bs) r e w))
 
 none_passing : (a b : Bool) (h : Head) → a ≡ true → None ≡ cond a (cond b (Some h) None) None → b ≡ false
 none_passing a false h t e = refl
-none_passing true true h t e = absurd (let z : ◌≡◌ {A = ℕ} 0 1 = cc in omega arith)
-none_passing false true h t e = absurd (let z : ◌≡◌ {A = ℕ} 0 1 = cc in omega arith)
+none_passing true true h t e = cc
+none_passing false true h t e = cc
 
 some_passing : (a b : Bool) (g h : Head) → Some g ≡ cond a (cond b (Some h) None) None → (b ≡ true) × (g ≡ h)
 some_passing true true g h e = (refl, cc)
-some_passing true false g h e = absurd (let z : ◌≡◌ {A = ℕ} 0 1 = cc in omega arith)
-some_passing false b g h e = absurd (let z : ◌≡◌ {A = ℕ} 0 1 = cc in omega arith)
+some_passing true false g h e = cc
+some_passing false b g h e = cc
 
 pub passing_some : (bs : List ℕ) (h : Head) → Some h ≡ passing bs → (all (header (length bs) bs) ≡ true) × (h ≡ head bs)
 passing_some bs h e = some_passing (leb 12 (length bs)) (all (header (length bs) bs)) h (head bs) e
 
-entry_given : (it : Item) (b : Bool) (e : Entry) → view it ≡ entry_of it (read_entry it) → Some e ≡ cond b (Some (read_entry it)) None → Some (entry_of it e) ≡ viewed (cond b (Some it) None)
-entry_given it true e v h = cc
-entry_given it false e v h = absurd (let z : ◌≡◌ {A = ℕ} 0 1 = cc in omega arith)
-
-content_given : (it : Item) (b : Bool) (e : Content) → view it ≡ content_of it (read_content it) → Some e ≡ cond b (Some (read_content it)) None → Some (content_of it e) ≡ viewed (cond b (Some it) None)
-content_given it true e v h = cc
-content_given it false e v h = absurd (let z : ◌≡◌ {A = ℕ} 0 1 = cc in omega arith)
+given : {X : Type 0} (it : Item) (b : Bool) (e x : X) (v : X → View) → view it ≡ v x → Some e ≡ cond b (Some x) None → Some (v e) ≡ viewed (cond b (Some it) None)
+given it true e x v w h = cc
+given it false e x v w h = cc
 
 none_given : {X : Type 0} (it : Item) (b : Bool) (x : X) → None ≡ cond b (Some x) None → None ≡ viewed (cond b (Some it) None)
-none_given it true x h = absurd (let z : ◌≡◌ {A = ℕ} 0 1 = cc in omega arith)
+none_given it true x h = cc
 none_given it false x h = refl
 
 -- a place that is no zero word, and of which the header can be read
-module _ (fs : List Bool) (at : ℕ) (bs : List ℕ) (twelve : reaching fs at bs 12 ≡ true) (other : is_word bs ≡ false) where
+module _ (fs : List Bool) (at : ℕ) (bs : List ℕ) (twelve : 12 ≤ got fs at bs) (other : is_word bs ≡ false) where
   pub none_sound : None ≡ passing bs → None ≡ sized (stands (seen_from fs at bs))
   none_sound e =
-      let b = none_passing (leb 12 (length bs)) (all (header (length bs) bs)) (head bs) (le-leb _ _ (reaching_length fs at bs 12 twelve)) e in
-      sym (ap sized (stands_is fs at bs ∙ none_bad (length bs) bs (got fs at bs) (leb-true _ _ twelve) (got_within fs at bs) other b))
+      let b = none_passing (leb 12 (length bs)) (all (header (length bs) bs)) (head bs) (le-leb _ _ (let w = got_within fs at bs in omega arith)) e in
+      sym (ap sized (stands_is fs at bs ∙ none_bad (length bs) bs (got fs at bs) twelve (got_within fs at bs) other b))
 
   sizes : (o : Option Item) → stands (seen_from fs at bs) ≡ o → (v : View) (n : ℕ) → Some v ≡ viewed o → n ≡ padded (totlen bs) → Some (v, n) ≡ sized o
-  sizes None s v n e p = absurd (let z : ◌≡◌ {A = ℕ} 0 1 = cc in omega arith)
+  sizes None s v n e p = cc
   sizes (Some it) s v n e p =
-      let c = offered_cut (length bs) bs (got fs at bs) (leb-true _ _ twelve) (got_within fs at bs) other it (sym (stands_is fs at bs) ∙ s) in
+      let c = offered_cut (length bs) bs (got fs at bs) twelve (got_within fs at bs) other it (sym (stands_is fs at bs) ∙ s) in
       let r = reach_more bs other in
       let w : is_word it ≡ false = ap is_word (sym c) ∙ word_cut bs (reach bs) (omega arith) ∙ other in
       let t : totlen it ≡ totlen bs = ap totlen (sym c) ∙ le32_cut bs (reach bs) 4 (omega arith) in
@@ -108,7 +120,7 @@ module _ (fs : List Bool) (at : ℕ) (bs : List ℕ) (twelve : reaching fs at bs
     where
       go : (o : Option Item) → None ≡ viewed o → None ≡ sized o
       go None e = refl
-      go (Some it) e = absurd (let z : ◌≡◌ {A = ℕ} 0 1 = cc in omega arith)
+      go (Some it) e = cc
 
 -- a place with a header that passes
 module _ {fs : List Bool} {at : ℕ} {bs : List ℕ} {h : Head} (headed : Headed fs at bs h) where
@@ -138,17 +150,17 @@ module _ {fs : List Bool} {at : ℕ} {bs : List ℕ} {h : Head} (headed : Headed
       sym (ap viewed (stands_is fs at bs ∙ plain_offered (length bs) bs (got fs at bs) (leb-true _ _ headed.all_read) (got_within fs at bs) headed.no_word sound
       (not_kind h.kind 0xE001 p refl) (not_kind h.kind 0xE002 q refl)) ∙ ap Some e)
 
-  pub unknown_viewed : None ≡ kind_with h.kind → Some (unknown_of h.kind h.totlen) ≡ viewed (stands (seen_from fs at bs))
+  pub unknown_viewed : kind_with h.kind ≡ None → Some (unknown_of h.kind h.totlen) ≡ viewed (stands (seen_from fs at bs))
   unknown_viewed u =
       let f = kind_unknown h.kind u in
       plain _ f.2 f.3 (view_unknown (take 12 bs) h.kind twelve_word twelve_kind u ∙ ap (unknown_of h.kind) twelve_length)
 
-  pub marker_viewed : Some kinds.Marker ≡ kind_with h.kind → Some (marker_of h.totlen) ≡ viewed (stands (seen_from fs at bs))
+  pub marker_viewed : kind_with h.kind ≡ Some kinds.Marker → Some (marker_of h.totlen) ≡ viewed (stands (seen_from fs at bs))
   marker_viewed k =
       let e = kind_known h.kind kinds.Marker k in
       plain _ (ap (λ n. eqb n 0xE001) e) (ap (λ n. eqb n 0xE002) e) (view_kind (take 12 bs) 0x2003 twelve_word (twelve_kind ∙ e) ∙ ap marker_of twelve_length)
 
-  pub padding_viewed : Some kinds.Padding ≡ kind_with h.kind → Some (padding_of h.totlen) ≡ viewed (stands (seen_from fs at bs))
+  pub padding_viewed : kind_with h.kind ≡ Some kinds.Padding → Some (padding_of h.totlen) ≡ viewed (stands (seen_from fs at bs))
   padding_viewed k =
       let e = kind_known h.kind kinds.Padding k in
       plain _ (ap (λ n. eqb n 0xE001) e) (ap (λ n. eqb n 0xE002) e) (view_kind (take 12 bs) 0x2004 twelve_word (twelve_kind ∙ e) ∙ ap padding_of twelve_length)
@@ -156,52 +168,62 @@ module _ {fs : List Bool} {at : ℕ} {bs : List ℕ} {h : Head} (headed : Headed
   long : 12 ≤ h.totlen
   long = let low = leb-true 12 (totlen bs) (at_all (header (length bs) bs) sound 3) in omega (arith, length_is)
 
-  -- an entry or a content, of which the code takes the first n bytes
-  module _ (n : ℕ) (same : n ≡ h.totlen) where
-    node_word : is_word (take n bs) ≡ false
-    node_word = word_cut bs n (omega (arith, long)) ∙ headed.no_word
+  -- an entry or a content, if not all its bytes can be read, and if the code takes them
+  module _ (v : ℕ) (is : h.kind ≡ v) (node : either (eqb v 0xE001) (eqb v 0xE002) ≡ true) where
+    node_stands : stands (seen_from fs at bs) ≡ cond (leb h.totlen (got fs at bs)) (cond (body (take h.totlen bs)) (Some (take h.totlen bs)) None) None
+    node_stands =
+        stands_is fs at bs
+        ∙ node_offered (length bs) bs (got fs at bs) (leb-true _ _ headed.all_read) (got_within fs at bs) headed.no_word sound (ap (λ n. either (eqb n 0xE001) (eqb n 0xE002)) (sym kind_is ∙ is) ∙ node)
+        ∙ ap (λ l. cond (leb l (got fs at bs)) (cond (body (take l bs)) (Some (take l bs)) None) None) (sym length_is)
 
-    node_kind : kind (take n bs) ≡ h.kind
-    node_kind = le16_cut bs n 2 (omega (arith, long)) ∙ sym kind_is
+    node_short : got fs at bs < h.totlen → None ≡ viewed (stands (seen_from fs at bs))
+    node_short l = sym (ap viewed (node_stands ∙ cond-false _ _ _ (lt-leb _ _ l)))
 
-    pub node_length : true ≡ reaching fs at bs h.totlen → length (take n bs) ≡ totlen (take n bs)
-    node_length r =
-        length-take-le n bs (omega (arith, reaching_length fs at bs h.totlen (sym r))) ∙ same ∙ length_is ∙ sym (le32_cut bs n 4 (omega (arith, long)))
+    node_at : (it : Item) (b : Bool) → h.totlen ≤ got fs at bs → it ≡ take h.totlen bs → body it ≡ b → stands (seen_from fs at bs) ≡ cond b (Some it) None
+    node_at it b l same f =
+        node_stands ∙ cond-true _ _ _ (le-leb _ _ l)
+        ∙ ap (λ i. cond (body i) (Some i) None) (sym same) ∙ ap (λ t. cond t (Some it) None) f
 
-    entry_at : (b : Bool) → b ≡ reaching fs at bs h.totlen → h.kind ≡ 0xE001 → cond b (cond (all (entry (take n bs))) (Some (take n bs)) None) None ≡ stands (seen_from fs at bs)
-    entry_at b r k =
-        let t : n ≡ totlen bs = same ∙ length_is in
-        sym (stands_is fs at bs ∙ entry_offered (length bs) bs (got fs at bs) (leb-true _ _ headed.all_read) (got_within fs at bs) headed.no_word sound (ap (λ v. eqb v 0xE001) (sym kind_is ∙ k))
-        ∙ ap (λ l. cond (leb l (got fs at bs)) (cond (body (take l bs)) (Some (take l bs)) None) None) (sym t)
-        ∙ ap (λ v. cond v (cond (body (take n bs)) (Some (take n bs)) None) None) (ap (λ l. leb l (got fs at bs)) same ∙ sym r)
-        ∙ ap (λ v. cond b (cond v (Some (take n bs)) None) None) (cond-true _ _ _ (ap (λ v. eqb v 0xE001) (node_kind ∙ k))))
+  pub entry_short : kind_with h.kind ≡ Some kinds.Entry → got fs at bs < h.totlen → None ≡ viewed (stands (seen_from fs at bs))
+  entry_short k = node_short 0xE001 (kind_known h.kind kinds.Entry k) refl
 
-    content_at : (b : Bool) → b ≡ reaching fs at bs h.totlen → h.kind ≡ 0xE002 → cond b (cond (all (content (take n bs))) (Some (take n bs)) None) None ≡ stands (seen_from fs at bs)
-    content_at b r k =
-        let t : n ≡ totlen bs = same ∙ length_is in
-        sym (stands_is fs at bs ∙ content_offered (length bs) bs (got fs at bs) (leb-true _ _ headed.all_read) (got_within fs at bs) headed.no_word sound (ap (λ v. eqb v 0xE001) (sym kind_is ∙ k)) (ap (λ v. eqb v 0xE002) (sym kind_is ∙ k))
-        ∙ ap (λ l. cond (leb l (got fs at bs)) (cond (body (take l bs)) (Some (take l bs)) None) None) (sym t)
-        ∙ ap (λ v. cond v (cond (body (take n bs)) (Some (take n bs)) None) None) (ap (λ l. leb l (got fs at bs)) same ∙ sym r)
-        ∙ ap (λ v. cond b (cond v (Some (take n bs)) None) None) (cond-false _ _ _ (ap (λ v. eqb v 0xE001) (node_kind ∙ k)) ∙ cond-true _ _ _ (ap (λ v. eqb v 0xE002) (node_kind ∙ k))))
+  pub content_short : kind_with h.kind ≡ Some kinds.Content → got fs at bs < h.totlen → None ≡ viewed (stands (seen_from fs at bs))
+  content_short k = node_short 0xE002 (kind_known h.kind kinds.Content k) refl
 
-    pub entry_viewed : (e : Entry) → true ≡ reaching fs at bs h.totlen → h.kind ≡ 0xE001 → Some e ≡ entry_in (take n bs) → Some (entry_of (take n bs) e) ≡ viewed (stands (seen_from fs at bs))
-    entry_viewed e r k x =
-        entry_given (take n bs) (all (entry (take n bs))) e (view_kind (take n bs) 0xE001 node_word (node_kind ∙ k)) x
-        ∙ ap viewed (entry_at true r k)
+  module _ {it : Item} (f : (h.totlen ≤ got fs at bs) × (it ≡ take h.totlen (front (seen_from fs at bs)))) where
+    same : it ≡ take h.totlen bs
+    same = f.1 ∙ front_part fs at bs h.totlen f.0
 
-    pub content_viewed : (e : Content) → true ≡ reaching fs at bs h.totlen → h.kind ≡ 0xE002 → Some e ≡ content_in (take n bs) → Some (content_of (take n bs) e) ≡ viewed (stands (seen_from fs at bs))
-    content_viewed e r k x =
-        content_given (take n bs) (all (content (take n bs))) e (view_kind (take n bs) 0xE002 node_word (node_kind ∙ k)) x
-        ∙ ap viewed (content_at true r k)
+    node_word : is_word it ≡ false
+    node_word = ap is_word same ∙ word_cut bs h.totlen (omega (arith, long)) ∙ headed.no_word
 
-    pub entry_fails : true ≡ reaching fs at bs h.totlen → h.kind ≡ 0xE001 → None ≡ entry_in (take n bs) → None ≡ viewed (stands (seen_from fs at bs))
-    entry_fails r k x = none_given (take n bs) (all (entry (take n bs))) (read_entry (take n bs)) x ∙ ap viewed (entry_at true r k)
+    node_kind : kind it ≡ h.kind
+    node_kind = ap kind same ∙ le16_cut bs h.totlen 2 (omega (arith, long)) ∙ sym kind_is
 
-    pub content_fails : true ≡ reaching fs at bs h.totlen → h.kind ≡ 0xE002 → None ≡ content_in (take n bs) → None ≡ viewed (stands (seen_from fs at bs))
-    content_fails r k x = none_given (take n bs) (all (content (take n bs))) (read_content (take n bs)) x ∙ ap viewed (content_at true r k)
+    pub node_length : length it ≡ totlen it
+    node_length =
+        ap length f.1 ∙ length-take-le h.totlen (front (seen_from fs at bs)) f.0
+        ∙ length_is ∙ sym (le32_cut bs h.totlen 4 (omega (arith, long))) ∙ ap totlen (sym same)
 
-  pub entry_short : false ≡ reaching fs at bs h.totlen → h.kind ≡ 0xE001 → None ≡ viewed (stands (seen_from fs at bs))
-  entry_short r k = ap viewed (entry_at h.totlen refl false r k)
+    entry_stands : h.kind ≡ 0xE001 → stands (seen_from fs at bs) ≡ cond (all (entry it)) (Some it) None
+    entry_stands k = node_at 0xE001 k refl it _ f.0 same (cond-true _ _ _ (ap (λ n. eqb n 0xE001) (node_kind ∙ k)))
 
-  pub content_short : false ≡ reaching fs at bs h.totlen → h.kind ≡ 0xE002 → None ≡ viewed (stands (seen_from fs at bs))
-  content_short r k = ap viewed (content_at h.totlen refl false r k)
+    content_stands : h.kind ≡ 0xE002 → stands (seen_from fs at bs) ≡ cond (all (content it)) (Some it) None
+    content_stands k =
+        node_at 0xE002 k refl it _ f.0 same (cond-false _ _ _ (ap (λ n. eqb n 0xE001) (node_kind ∙ k)) ∙ cond-true _ _ _ (ap (λ n. eqb n 0xE002) (node_kind ∙ k)))
+
+    pub entry_viewed : kind_with h.kind ≡ Some kinds.Entry → (e : Entry) → Some e ≡ entry_in it → Some (entry_of it e) ≡ viewed (stands (seen_from fs at bs))
+    entry_viewed k e x =
+        let v = kind_known h.kind kinds.Entry k in
+        given it (all (entry it)) e (read_entry it) (entry_of it) (view_kind it 0xE001 node_word (node_kind ∙ v)) x ∙ sym (ap viewed (entry_stands v))
+
+    pub content_viewed : kind_with h.kind ≡ Some kinds.Content → (e : Content) → Some e ≡ content_in it → Some (content_of it e) ≡ viewed (stands (seen_from fs at bs))
+    content_viewed k e x =
+        let v = kind_known h.kind kinds.Content k in
+        given it (all (content it)) e (read_content it) (content_of it) (view_kind it 0xE002 node_word (node_kind ∙ v)) x ∙ sym (ap viewed (content_stands v))
+
+    pub entry_fails : kind_with h.kind ≡ Some kinds.Entry → None ≡ entry_in it → None ≡ viewed (stands (seen_from fs at bs))
+    entry_fails k x = none_given it (all (entry it)) (read_entry it) x ∙ sym (ap viewed (entry_stands (kind_known h.kind kinds.Entry k)))
+
+    pub content_fails : kind_with h.kind ≡ Some kinds.Content → None ≡ content_in it → None ≡ viewed (stands (seen_from fs at bs))
+    content_fails k x = none_given it (all (content it)) (read_content it) x ∙ sym (ap viewed (content_stands (kind_known h.kind kinds.Content k)))

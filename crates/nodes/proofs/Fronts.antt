@@ -1,8 +1,9 @@
 -- What stands at a place of a block, decided by its bytes from there on and by how many of them can be read.
 use Rattle.std.proofs.Common.{◌≡◌, ℕ, ◌+◌, ◌<◌, ◌≤◌, max, Bool, true, false, cond, eqb, leb, List, length, take, Some, None, sym, refl, ap, ◌∙◌, arith, length-take}
 use Rattle.std.proofs.lemmas.List.{get_or-take, length-take-le, take-take}
-use Rattle.std.proofs.lemmas.Bool.{leb-true, le-leb, lt-leb, cond-true, cond-false}
+use Rattle.std.proofs.lemmas.Bool.{leb-true, le-leb, lt-leb, cond-true, cond-false, false≢true}
 use Rattle.nodes.specs.Fields.{le16, le32, all}
+use Rattle.nodes.specs.Offences.{either}
 use Rattle.nodes.specs.Items.{Item, kind, totlen, is_word, reach, header, entry, content, passes, offered}
 use Rattle.nodes.proofs.Standing.{reach_word, reach_more, reach_least, at_all}
 
@@ -106,15 +107,15 @@ module _ (room : ℕ) (bs : List ℕ) (m : ℕ) (twelve : 12 ≤ m) (within : m 
   longest e = let low = leb-true 12 (totlen bs) (at_all (header room bs) e 3) in omega arith
 
   -- all its bytes decide an entry or a content
-  pub entry_offered : all (header room bs) ≡ true → eqb (kind bs) 0xE001 ≡ true → offered room (take m bs) ≡ cond (leb (totlen bs) m) (cond (body (take (totlen bs) bs)) (Some (take (totlen bs) bs)) None) None
+  pub node_offered : all (header room bs) ≡ true → either (eqb (kind bs) 0xE001) (eqb (kind bs) 0xE002) ≡ true → offered room (take m bs) ≡ cond (leb (totlen bs) m) (cond (body (take (totlen bs) bs)) (Some (take (totlen bs) bs)) None) None
   unfolding reach
-  entry_offered e p =
-      headed_is (totlen bs) (cond-false _ _ _ other ∙ cond-true _ _ _ p ∙ longest e) e
-
-  pub content_offered : all (header room bs) ≡ true → eqb (kind bs) 0xE001 ≡ false → eqb (kind bs) 0xE002 ≡ true → offered room (take m bs) ≡ cond (leb (totlen bs) m) (cond (body (take (totlen bs) bs)) (Some (take (totlen bs) bs)) None) None
-  unfolding reach
-  content_offered e p q =
-      headed_is (totlen bs) (cond-false _ _ _ other ∙ cond-false _ _ _ p ∙ cond-true _ _ _ q ∙ longest e) e
+  node_offered e k =
+      headed_is (totlen bs) (cond-false _ _ _ other ∙ go (eqb (kind bs) 0xE001) (eqb (kind bs) 0xE002) k ∙ longest e) e
+    where
+      go : (x y : Bool) → either x y ≡ true → cond x (max 12 (totlen bs)) (cond y (max 12 (totlen bs)) 12) ≡ max 12 (totlen bs)
+      go true y k = refl
+      go false true k = refl
+      go false false k = absurd (false≢true k)
 
   -- whatever is offered is a first part of the bytes, with the header in it
   pub offered_cut : (it : Item) → offered room (take m bs) ≡ Some it → take (reach bs) bs ≡ it
@@ -123,5 +124,5 @@ module _ (room : ℕ) (bs : List ℕ) (m : ℕ) (twelve : 12 ≤ m) (within : m 
     where
       some_of : (a b : Bool) (x y : Item) → cond a (cond b (Some x) None) None ≡ Some y → x ≡ y
       some_of true true x y e = cc
-      some_of true false x y e = absurd (let z : ◌≡◌ {A = ℕ} 0 1 = cc in omega arith)
-      some_of false b x y e = absurd (let z : ◌≡◌ {A = ℕ} 0 1 = cc in omega arith)
+      some_of true false x y e = cc
+      some_of false b x y e = cc

@@ -1,35 +1,27 @@
 -- Names and offences, test by test.
-use Rattle.std.proofs.Common.{◌≡◌, ℕ, ◌+◌, ◌<◌, max, Bool, true, false, cond, eqb, leb, ◌⊎◌, List, length, get_or, drop, Some, None, Option, sym, refl, ap, ◌∙◌, inl, inr, ⊎_elim, arith}
-use Rattle.std.proofs.lemmas.List.{at_drop_more}
-use Rattle.std.proofs.lemmas.Bool.{eq-eqb, eqb-true, ne_eqb, leb-true, cond-false}
+use Rattle.std.proofs.Common.{◌≡◌, ℕ, max, Bool, true, false, cond, not, ◌&&◌, eqb, leb, ◌⊎◌, List, [], ◌∷◌, length, Some, None, Option, refl, ap, ◌∙◌, inl, inr, ⊎_elim, arith}
+use Rattle.std.proofs.lemmas.Bool.{eqb-true, leb-true, cond-false}
 use Rattle.flash.specs.Cells.{Cell}
 use Rattle.flash.specs.declared.refusal.Refusal.{Refusal}
 use Rattle.flash.specs.declared.refusal.Refusal.TheVariants as refusal
 use Rattle.nodes.specs.Items.{Item, kind, totlen, is_word, header, reach, stands}
 use Rattle.nodes.specs.Records.{read_entry, read_content}
+use Rattle.std.specs.List.{list_all}
 use Rattle.nodes.specs.Offences.{either, plain, entry_offence, content_offence, offence, offence_of, Judged}
 use Rattle.nodes.specs.Views.{View, zero_word, marker_of, padding_of, unknown_of, entry_of, content_of, view}
 use Rattle.nodes.proofs.Standing.{stands_reads, headed, at_all}
 
-stopped : (a b t : Bool) → (a ≡ true) ⊎ (b ≡ true) → false ≡ cond (either a b) false t
-stopped true b t h = refl
-stopped false true t h = refl
-stopped false false t h = absurd (⊎_elim (λ (e : false ≡ true). let z : ◌≡◌ {A = ℕ} 0 1 = cc in omega arith) (λ (e : false ≡ true). let z : ◌≡◌ {A = ℕ} 0 1 = cc in omega arith) h)
+-- a byte that names have
+abbrev pub kept : ℕ → Bool
+kept b = not (either (eqb b 0) (eqb b 0x2F))
 
--- a byte that no name has
-pub plain_stop : (name : List ℕ) (i : ℕ) → i < length name → plain (drop i name) ≡ plain name → (get_or name i 0 ≡ 0) ⊎ (get_or name i 0 ≡ 0x2F) → false ≡ plain name
-plain_stop name i l inv h =
-    stopped (eqb (get_or name i 0) 0) (eqb (get_or name i 0) 0x2F) (plain (drop (i + 1) name))
-    (⊎_elim (λ (e : get_or name i 0 ≡ 0). inl (eq-eqb _ _ e)) (λ (e : get_or name i 0 ≡ 0x2F). inr (eq-eqb _ _ e)) h)
-    ∙ sym (at_drop_more plain name i 0 l) ∙ inv
-
-passed : (a b t : Bool) → a ≡ false → b ≡ false → t ≡ cond (either a b) false t
-passed a b t e f = cc
-
-pub plain_more : (name : List ℕ) (i : ℕ) → i < length name → plain (drop i name) ≡ plain name → (get_or name i 0 ≡ 0 → ⊥) → (get_or name i 0 ≡ 0x2F → ⊥) → plain (drop (i + 1) name) ≡ plain name
-plain_more name i l inv e f =
-    passed (eqb (get_or name i 0) 0) (eqb (get_or name i 0) 0x2F) (plain (drop (i + 1) name)) (ne_eqb _ _ e) (ne_eqb _ _ f)
-    ∙ sym (at_drop_more plain name i 0 l) ∙ inv
+pub plain_all : (name : List ℕ) → list_all kept name ≡ plain name
+plain_all [] = refl
+plain_all (b ∷ name) = go (either (eqb b 0) (eqb b 0x2F)) (plain_all name)
+  where
+    go : (t : Bool) → list_all kept name ≡ plain name → (not t && list_all kept name) ≡ cond t false (plain name)
+    go true h = refl
+    go false h = h
 
 -- all bytes of an entry or a content that stands are at hand
 whole_node : (cs : List Cell) (it : Item) → stands cs ≡ Some it → is_word it ≡ false → (eqb (kind it) 0xE001 ≡ true) ⊎ (eqb (kind it) 0xE002 ≡ true) → length it ≡ totlen it
@@ -43,10 +35,10 @@ whole_node cs it s w k =
     go : (x y : Bool) → (x ≡ true) ⊎ (y ≡ true) → cond x (max 12 (totlen it)) (cond y (max 12 (totlen it)) 12) ≡ max 12 (totlen it)
     go true y k = refl
     go false true k = refl
-    go false false k = absurd (⊎_elim (λ (e : false ≡ true). let z : ◌≡◌ {A = ℕ} 0 1 = cc in omega arith) (λ (e : false ≡ true). let z : ◌≡◌ {A = ℕ} 0 1 = cc in omega arith) k)
+    go false false k = ⊎_elim (λ (e : false ≡ true). cc) (λ (e : false ≡ true). cc) k
 
 -- the offence by what the item is, and the offence by its bytes
-pub offence_view : (cs : List Cell) (it : Item) → stands cs ≡ Some it → offence_of (view it) ≡ offence it
+offence_view : (cs : List Cell) (it : Item) → stands cs ≡ Some it → offence_of (view it) ≡ offence it
 unfolding view offence
 offence_view cs it s =
     go (is_word it) (eqb (kind it) 0x2003) (eqb (kind it) 0x2004) (eqb (kind it) 0xE001) (eqb (kind it) 0xE002) (leb 0x8000 (kind it)) refl

@@ -1,9 +1,7 @@
 pub mod Standing
 pub mod Walks
 pub mod Marks
-pub mod Heads
 pub mod Cuts
-pub mod Records
 pub mod Fronts
 pub mod Viewed
 pub mod Decided

@@ -62,8 +62,8 @@ module _ (a r : List ℕ) (four : 4 ≤ length a) where
 
 chosen : (b c : Bool) (x it : Item) → cond b (cond c (Some x) None) None ≡ Some it → (b ≡ true) × (c ≡ true) × (x ≡ it)
 chosen true true x it e = (refl, refl, cc)
-chosen true false x it e = absurd (let z : ◌≡◌ {A = ℕ} 0 1 = cc in omega arith)
-chosen false c x it e = absurd (let z : ◌≡◌ {A = ℕ} 0 1 = cc in omega arith)
+chosen true false x it e = cc
+chosen false c x it e = cc
 
 split_reach : (a r : List ℕ) → reach (a ++ r) ≡ length a → reach a ≡ length a
 split_reach a r e =
@@ -101,12 +101,12 @@ pub at_all : (bs : List Bool) → all bs ≡ true → (k : ℕ) → get_or bs k 
 at_all [] e k = refl
 at_all (true ∷ bs) e zero = refl
 at_all (true ∷ bs) e (suc k) = at_all bs e k
-at_all (false ∷ bs) e k = absurd (let z : ◌≡◌ {A = ℕ} 0 1 = cc in omega arith)
+at_all (false ∷ bs) e k = cc
 
 second : (a b c : Bool) → a ≡ false → cond a true (cond b c false) ≡ true → b ≡ true
 second a true c f e = refl
-second true false c f e = absurd (let z : ◌≡◌ {A = ℕ} 0 1 = cc in omega arith)
-second false false c f e = absurd (let z : ◌≡◌ {A = ℕ} 0 1 = cc in omega arith)
+second true false c f e = cc
+second false false c f e = cc
 
 -- the header of what is no zero word passes
 pub headed : (room : ℕ) (it : Item) → is_word it ≡ false → passes room it ≡ true → all (header room it) ≡ true
@@ -141,19 +141,15 @@ sized cs it r =
 
 last_test : (a b c d e f : Bool) → all (a ∷ b ∷ c ∷ d ∷ e ∷ []) ≡ true → f ≡ true → all (a ∷ b ∷ c ∷ d ∷ f ∷ []) ≡ true
 last_test true true true true e f p q = ap (λ x. cond x true false) q
-last_test false b c d e f p q = absurd (let z : ◌≡◌ {A = ℕ} 0 1 = cc in omega arith)
-last_test true false c d e f p q = absurd (let z : ◌≡◌ {A = ℕ} 0 1 = cc in omega arith)
-last_test true true false d e f p q = absurd (let z : ◌≡◌ {A = ℕ} 0 1 = cc in omega arith)
-last_test true true true false e f p q = absurd (let z : ◌≡◌ {A = ℕ} 0 1 = cc in omega arith)
+last_test false b c d e f p q = cc
+last_test true false c d e f p q = cc
+last_test true true false d e f p q = cc
+last_test true true true false e f p q = cc
 
 swap_test : (w h k c : Bool) → (w ≡ false → h ≡ true → k ≡ true) → cond w true (cond h c false) ≡ true → cond w true (cond k c false) ≡ true
 swap_test true h k c f e = refl
 swap_test false true k c f e = ap (λ x. cond x c false) (f refl refl) ∙ e
-swap_test false false k c f e = absurd (let z : ◌≡◌ {A = ℕ} 0 1 = cc in omega arith)
-
-size_more : (it : Item) → is_word it ≡ false → size it ≡ padded (totlen it)
-unfolding size
-size_more it e = cond-false _ _ _ e
+swap_test false false k c f e = cc
 
 -- what passes passes where there is more room
 pub roomier : (m n : ℕ) (it : Item) → m ≤ n → passes m it ≡ true → passes n it ≡ true
@@ -176,11 +172,3 @@ moved xs ys it n e l t r =
       whole = r.whole;
       good = subst (λ k. passes k it ≡ true) e r.good;
     }
-
--- what passes passes where there is just room for it
-pub tighter : (room : ℕ) (it : Item) → passes room it ≡ true → passes (size it) it ≡ true
-unfolding passes
-tighter room it g =
-    swap_test (is_word it) (all (header room it)) (all (header (size it) it)) _
-    (λ w h. last_test (eqb (get_or it 0 0) 0x85) (eqb (get_or it 1 0) 0x19) (eqb (le32 it 8) (sum (take 8 it))) (leb 12 (totlen it)) (leb (padded (totlen it)) room) (leb (padded (totlen it)) (size it)) h
-    (le-leb (padded (totlen it)) (size it) (let k = size_more it w in omega arith))) g

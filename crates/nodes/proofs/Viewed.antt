@@ -1,5 +1,5 @@
 -- What an item is, by its kind.
-use Rattle.std.proofs.Common.{◌≡◌, ℕ, Bool, true, false, cond, eqb, Some, None, refl, ap, ◌∙◌, arith}
+use Rattle.std.proofs.Common.{◌≡◌, ℕ, Bool, true, false, cond, eqb, Some, None, refl, ap, ◌∙◌}
 use Rattle.std.proofs.lemmas.Bool.{eqb-true, cond-true, cond-false}
 use Rattle.kinds.specs.declared.Kind.{Kind}
 use Rattle.kinds.specs.declared.Kind.TheVariants.{Marker, Padding, Entry, Content}
@@ -9,25 +9,25 @@ use Rattle.nodes.specs.Items.{Item, kind, totlen, is_word, size}
 use Rattle.nodes.specs.Records.{read_entry, read_content}
 use Rattle.nodes.specs.Views.{View, zero_word, marker_of, padding_of, unknown_of, entry_of, content_of, view}
 
-pub kind_known : (v : ℕ) (k : Kind) → Some k ≡ kind_with v → v ≡ kind_value k
+pub kind_known : (v : ℕ) (k : Kind) → kind_with v ≡ Some k → v ≡ kind_value k
 kind_known v k e = go (eqb v 0x2003) (eqb v 0x2004) (eqb v 0xE001) (eqb v 0xE002) (eqb-true _ _) (eqb-true _ _) (eqb-true _ _) (eqb-true _ _) e
   where
-    go : (a b c d : Bool) → (a ≡ true → v ≡ 0x2003) → (b ≡ true → v ≡ 0x2004) → (c ≡ true → v ≡ 0xE001) → (d ≡ true → v ≡ 0xE002) → Some k ≡ cond a (Some Marker) (cond b (Some Padding) (cond c (Some Entry) (cond d (Some Content) None))) → v ≡ kind_value k
+    go : (a b c d : Bool) → (a ≡ true → v ≡ 0x2003) → (b ≡ true → v ≡ 0x2004) → (c ≡ true → v ≡ 0xE001) → (d ≡ true → v ≡ 0xE002) → cond a (Some Marker) (cond b (Some Padding) (cond c (Some Entry) (cond d (Some Content) None))) ≡ Some k → v ≡ kind_value k
     go true b c d p q r s e = let h = p refl in cc
     go false true c d p q r s e = let h = q refl in cc
     go false false true d p q r s e = let h = r refl in cc
     go false false false true p q r s e = let h = s refl in cc
-    go false false false false p q r s e = absurd (let z : ◌≡◌ {A = ℕ} 0 1 = cc in omega arith)
+    go false false false false p q r s e = cc
 
-pub kind_unknown : (v : ℕ) → None ≡ kind_with v → (eqb v 0x2003 ≡ false) × (eqb v 0x2004 ≡ false) × (eqb v 0xE001 ≡ false) × (eqb v 0xE002 ≡ false)
+pub kind_unknown : (v : ℕ) → kind_with v ≡ None → (eqb v 0x2003 ≡ false) × (eqb v 0x2004 ≡ false) × (eqb v 0xE001 ≡ false) × (eqb v 0xE002 ≡ false)
 kind_unknown v e = go (eqb v 0x2003) (eqb v 0x2004) (eqb v 0xE001) (eqb v 0xE002) e
   where
-    go : (a b c d : Bool) → None ≡ cond a (Some Marker) (cond b (Some Padding) (cond c (Some Entry) (cond d (Some Content) None))) → (a ≡ false) × (b ≡ false) × (c ≡ false) × (d ≡ false)
+    go : (a b c d : Bool) → cond a (Some Marker) (cond b (Some Padding) (cond c (Some Entry) (cond d (Some Content) None))) ≡ None → (a ≡ false) × (b ≡ false) × (c ≡ false) × (d ≡ false)
     go false false false false e = (refl, refl, refl, refl)
-    go true b c d e = absurd (let z : ◌≡◌ {A = ℕ} 0 1 = cc in omega arith)
-    go false true c d e = absurd (let z : ◌≡◌ {A = ℕ} 0 1 = cc in omega arith)
-    go false false true d e = absurd (let z : ◌≡◌ {A = ℕ} 0 1 = cc in omega arith)
-    go false false false true e = absurd (let z : ◌≡◌ {A = ℕ} 0 1 = cc in omega arith)
+    go true b c d e = cc
+    go false true c d e = cc
+    go false false true d e = cc
+    go false false false true e = cc
 
 -- what is no zero word, of a kind with this value
 abbrev of_kind : ℕ → Item → View
@@ -46,7 +46,7 @@ pub view_kind : (it : Item) (v : ℕ) → is_word it ≡ false → kind it ≡ v
 unfolding view
 view_kind it v w e = cond-false _ _ _ w ∙ ap (λ k. of_kind k it) e
 
-pub view_unknown : (it : Item) (v : ℕ) → is_word it ≡ false → kind it ≡ v → None ≡ kind_with v → view it ≡ unknown_of v (totlen it)
+pub view_unknown : (it : Item) (v : ℕ) → is_word it ≡ false → kind it ≡ v → kind_with v ≡ None → view it ≡ unknown_of v (totlen it)
 view_unknown it v w e u =
     let f = kind_unknown v u in
     view_kind it v w e ∙ cond-false _ _ _ f.0 ∙ cond-false _ _ _ f.1 ∙ cond-false _ _ _ f.2 ∙ cond-false _ _ _ f.3

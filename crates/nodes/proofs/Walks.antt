@@ -31,7 +31,7 @@ pub fuel : (f : ℕ) (xs : List Cell) (p : ℕ) → length xs ≤ p + f → walk
 unfolding walk_from
 fuel f xs p h = enough f (length xs) xs p h (omega arith)
 
-pub unfolds : (xs : List Cell) (p : ℕ) → walk_from xs p ≡ met (walk_from xs) p (stands (drop p xs))
+unfolds : (xs : List Cell) (p : ℕ) → walk_from xs p ≡ met (walk_from xs) p (stands (drop p xs))
 unfolding walk_from walk_in
 unfolds xs p =
     enough (length xs) (suc (length xs)) xs p (omega arith) (omega arith)

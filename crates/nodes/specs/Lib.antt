@@ -9,3 +9,5 @@ pub mod Seen
 pub mod Views
 pub mod Passing
 pub mod Reading
+pub mod Image
+pub mod Tail

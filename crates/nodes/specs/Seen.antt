@@ -4,7 +4,9 @@
 -- seen_from   the same of bytes that begin at a place of the block
 -- readable    whether the n bytes at a place can all be read
 -- reaching    whether bytes that begin at a place have n at least, and these can all be read
-use Rattle.std.specs.Prelude.{ℕ, zero, suc, ◌/◌, Bool, true, false, cond, List, [], ◌∷◌, length, nat_le, slice_index_or}
+-- IsRead      the answer is the first n of the cells, if there are so many and they can all be read
+use Rattle.std.specs.Prelude.{◌≡◌, ℕ, zero, suc, ◌/◌, ◌<◌, ◌≤◌, Bool, true, false, cond, List, [], ◌∷◌, length, take, Option, MatchOption, nat_le, slice_index_or}
+use denote.Ref.{Bor}
 use Rattle.flash.specs.Cells.{Cell, byte, lost, front}
 
 unfoldable pub seen_from : List Bool → ℕ → List ℕ → List Cell
@@ -20,3 +22,6 @@ readable fs at (suc n) = cond (slice_index_or fs (at / 4) false) (readable fs (s
 
 abbrev pub reaching : List Bool → ℕ → List ℕ → ℕ → Bool
 reaching fs at bs n = nat_le n (length (front (seen_from fs at bs)))
+
+abbrev pub IsRead : List Cell → ℕ → Option (Bor (List ℕ)) → Type 0
+IsRead cs n r = MatchOption r (length (front cs) < n) (λ bytes. (n ≤ length (front cs)) × (bytes.now ≡ take n (front cs)))

@@ -10,7 +10,7 @@
 use Rattle.std.specs.Prelude.{ℕ, cond, List, Some, None, Option, ◌==◌}
 use Rattle.nodes.specs.declared.item.Item as code
 use Rattle.nodes.specs.declared.item.Item.TheVariants as case
-use Rattle.nodes.specs.declared.decide.Standing as code_standing
+use Rattle.nodes.specs.declared.tail.Standing as code_standing
 use Rattle.nodes.specs.Items.{Item, kind, totlen, is_word, size}
 use Rattle.nodes.specs.Records.{Entry, Content, read_entry, read_content}
 use Rattle.nodes.specs.Shown.{entry_shown, content_shown}

@@ -13,6 +13,7 @@ pub struct Header<'a> {
 }
 
 // The header that bytes begin with, if they begin with the magic.
+#[tactic(auto, unfolding(crate::specs::Fields::le16, crate::specs::Fields::le32))]
 pub(crate) fn read_header(bytes: &[u8]) -> Option<Header<'_>>
     ensures { head_shown result ≡ head_of bytes.now }
 {
@@ -45,7 +46,7 @@ pub(crate) fn read_header(bytes: &[u8]) -> Option<Header<'_>>
 pub(crate) fn padded_len(totlen: u32) -> usize
     ensures { result ≡ padded totlen }
 {
-    (totlen as usize + 3) / 4 * 4
+    (totlen as usize).next_multiple_of(4)
 }
 
 // The header at the front of what is left of a block, if it passes: the magic, its sum, a length of at least its own, and
@@ -53,9 +54,7 @@ pub(crate) fn padded_len(totlen: u32) -> usize
 pub(crate) fn passing_header(bytes: &[u8]) -> Option<Header<'_>>
     ensures { head_shown result ≡ passing bytes.now }
 {
-    let Some(header) = read_header(bytes) else {
-        return None;
-    };
+    let header = read_header(bytes)?;
     if header.sum != crc32::sum_of(&bytes[..8]) || header.totlen < 12 {
         return None;
     }

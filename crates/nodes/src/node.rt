@@ -8,14 +8,13 @@ use crate::bytes::le_u32;
 use crate::record::{Content, Entry};
 
 // The entry of which these are the bytes, if it passes.
+#[tactic(auto, unfolding(crate::specs::Records::read_entry))]
 pub(crate) fn read_entry(node: &[u8]) -> Option<Entry<'_>>
     requires { length node.now ≡ totlen node.now }
     ensures { entry_read result ≡ entry_in node.now }
 {
-    if node.len() < 40 || node.len() < 40 + node[28] as usize {
-        return None;
-    }
-    let name = &node[40..40 + node[28] as usize];
+    let behind = node.get(40..)?;
+    let name = behind.get(..node[28] as usize)?;
     if le_u32(node, 32) != crc32::sum_of(&node[0..32]) || le_u32(node, 36) != crc32::sum_of(name) {
         return None;
     }
@@ -29,14 +28,13 @@ pub(crate) fn read_entry(node: &[u8]) -> Option<Entry<'_>>
 }
 
 // The content of which these are the bytes, if it passes.
+#[tactic(auto, unfolding(crate::specs::Records::read_content))]
 pub(crate) fn read_content(node: &[u8]) -> Option<Content<'_>>
     requires { length node.now ≡ totlen node.now }
     ensures { content_read result ≡ content_in node.now }
 {
-    if node.len() < 68 || node.len() < 68 + le_u32(node, 48) as usize {
-        return None;
-    }
-    let payload = &node[68..68 + le_u32(node, 48) as usize];
+    let behind = node.get(68..)?;
+    let payload = behind.get(..le_u32(node, 48) as usize)?;
     if le_u32(node, 60) != crc32::sum_of(payload)
         || le_u32(node, 64) != crc32::sum_of(&node[0..60])
     {

@@ -1,4 +1,5 @@
-// The fields of the two kinds of node, as read from the flash or as wanted there. What the rules do not name is left out.
+// The fields of the two kinds of node, as read from the flash or as wanted there. What the rules do not name is left out. The
+// type, the mode and the compression stay numbers: each that can stand on a flash is kept, so that a mount can refuse it.
 
 // A name in a directory (JFFS2's dirent): `ino` is the number that it names. A removal has `ino` and `dtype` 0.
 #[derive(Clone, Copy)]

@@ -1,15 +1,15 @@
-use Rattle.std.proofs.Common.{◌+◌, drop, sym, ap, ◌∙◌, arith}
-use Rattle.std.proofs.lemmas.List.{at_drop_more, at_drop_all}
-use Rattle.crc32.specs.Sum.{sum_from, sum}
+use Rattle.std.proofs.Common.{◌≡◌, ℕ, List, [], ◌∷◌, fold, refl, ◌∙◌, rules}
+use Rattle.std.proofs.lemmas.Iterator.{YieldsList-from_slice}
+use Rattle.std.proofs.lemmas.Iterator.Consumers.{fold_from_yields_List}
+use Rattle.crc32.specs.Sum.{fed, sum_from, sum}
 use Rattle.crc32.proofs.sum_of.Goals as goal
 
-pub loop-b-preserved : goal.loop-b-preserved
+fold_is : (c : ℕ) (bs : List ℕ) → fold fed c bs ≡ sum_from c bs
 unfolding sum_from
-loop-b-preserved c =
-    ap (λ n. sum_from n (drop (c.loop-b.b-index + 1) c.args.bytes.now)) c.step-c.ensures
-    ∙ sym (at_drop_more (sum_from c.loop-b.c) c.args.bytes.now c.loop-b.b-index 0 (omega arith))
-    ∙ c.loop-b.invariant
+fold_is c [] = refl
+fold_is c (b ∷ bs) = fold_is (fed c b) bs
 
 pub returns : goal.returns
-unfolding sum_from sum
-returns c = sym (at_drop_all (sum_from c.loop-b.c) c.args.bytes.now c.loop-b.b-index (omega arith)) ∙ c.loop-b.invariant
+unfolding sum
+returns c =
+    fold_from_yields_List _ fed 0 _ c.fold.ensures.ran (YieldsList-from_slice c.args.bytes.now cc) (λ s b n q k. search rules) ∙ fold_is 0 c.args.bytes.now

@@ -1,5 +1,5 @@
 use Rattle.std.proofs.Common.{sym, ◌∙◌}
-use Rattle.nodes.specs.Seen.{seen}
+use Rattle.nodes.specs.Image.{seen_in}
 use Rattle.losses.proofs.Leaving as leaving
 use Rattle.losses.proofs.Keeping.{keeps}
 use Rattle.losses.proofs.Fairness.{nothing_lost}
@@ -11,7 +11,7 @@ use Rattle.losses.proofs.fair.is_fair.Goals as goal
 pub returns : goal.returns
 returns c = record {
   answer = c.decide.ensures;
-  left = λ e. fair_left (seen c.args.want_flags.now c.args.want.now) (seen c.args.got_flags.now c.args.got.now) (sym c.decide.ensures ∙ e);
+  left = λ e. fair_left (seen_in c.args.want) (seen_in c.args.got) (sym c.decide.ensures ∙ e);
   rows = leaving.left;
   kept = λ want got k l e. keeps want got l k e;
   nothing = nothing_lost;
