@@ -1,23 +1,23 @@
 -- The rising look for spent blocks.
 use Rattle.std.proofs.Common.{◌≡◌, ℕ, zero, suc, ◌<◌, ◌≤◌, Bool, true, false, cond, not, ◌&&◌, ◌||◌, List, [], ◌∷◌, ◌++◌, map, length, get_or, take, drop, set, sym, refl, ap, ◌∙◌, subst, append_assoc, append-nil, arith, length-append}
 use Rattle.std.proofs.lemmas.List.{drop_all, take_at, drop_at, map-append}
-use Rattle.tree.specs.Newest.{any}
+use Rattle.std.specs.List.{flat_map, list_any}
 use Rattle.tree.specs.Spent.{pool, has_twin, replaced, marks}
 use Rattle.tree.specs.Lookups.{needed_entry, needed_content}
 use Rattle.tree.specs.Nodes.{entry, content}
 use Rattle.index.specs.declared.block.Block.{Block}
 use Rattle.index.specs.declared.block.State.{State}
 use Rattle.index.specs.declared.block.State.TheVariants.{Spent, Full}
-use Rattle.index.specs.Blocks.{all_of, entries_in, contents_in, all_entries, all_contents}
+use Rattle.index.specs.Blocks.{entries_in, contents_in}
 use Rattle.index.specs.Missed.{Kept, nodes_in, kept_in, elsewhere, twin_of, need, missed, misses, with_state, changed, marked}
 use Rattle.index.specs.Shown.{entry_shown, span_shown}
-use Rattle.index.proofs.Folds.{all_of-++}
+use Rattle.std.proofs.lemmas.Grind.{flat_map-append}
 
 abbrev full : Block → Block
 full = with_state Full
 
 abbrev kept : List Block → List Kept
-kept = all_of (kept_in nodes_in)
+kept = flat_map (kept_in nodes_in)
 
 pub set_changed : (bs : List Block) (i : ℕ) (s : State) (d : Block) → set bs i (with_state s (get_or bs i d)) ≡ changed i s bs
 set_changed [] i s d = refl
@@ -39,20 +39,20 @@ split (x ∷ xs) zero h = record { head = x; is = refl }
 split (x ∷ xs) (suc i) h = let s = split xs i (omega arith) in record { head = s.head; is = s.is }
 
 -- blocks that differ in their states alone have the same records
-full_entries : (bs : List Block) → all_of entries_in (map full bs) ≡ all_of entries_in bs
+full_entries : (bs : List Block) → flat_map entries_in (map full bs) ≡ flat_map entries_in bs
 full_entries [] = refl
 full_entries (b ∷ bs) = ap (λ l. entries_in b ++ l) (full_entries bs)
 
-full_contents : (bs : List Block) → all_of contents_in (map full bs) ≡ all_of contents_in bs
+full_contents : (bs : List Block) → flat_map contents_in (map full bs) ≡ flat_map contents_in bs
 full_contents [] = refl
 full_contents (b ∷ bs) = ap (λ l. contents_in b ++ l) (full_contents bs)
 
 need_full : (bs : List Block) (m : Kept) → need (map full bs) m ≡ need bs m
-unfolding need all_entries all_contents
+unfolding need
 need_full bs (entry e) = ap (λ es. needed_entry entry_shown es (entry_shown e)) (full_entries bs)
 need_full bs (content c) =
-    ap (λ es. needed_content entry_shown span_shown es (all_of contents_in (map full bs)) (span_shown c)) (full_entries bs)
-    ∙ ap (λ cs. needed_content entry_shown span_shown (all_of entries_in bs) cs (span_shown c)) (full_contents bs)
+    ap (λ es. needed_content entry_shown span_shown es (flat_map contents_in (map full bs)) (span_shown c)) (full_entries bs)
+    ∙ ap (λ cs. needed_content entry_shown span_shown (flat_map entries_in bs) cs (span_shown c)) (full_contents bs)
 
 pub same_need : (bs cs : List Block) → map full bs ≡ map full cs → (m : Kept) → need bs m ≡ need cs m
 same_need bs cs e m = sym (need_full bs m) ∙ ap (λ l. need l m) e ∙ need_full cs m
@@ -64,7 +64,7 @@ kept_full (b ∷ bs) = ap (λ l. nodes_in b ++ l) (kept_full bs)
 
 -- each needed node is replaced, unless one would be missed
 unreplaced : (f g : Kept → Bool) (others : List Kept) → ((m : Kept) → g m ≡ f m) → (ms : List Kept)
-    → any (λ m. g m && not (has_twin twin_of m others)) ms ≡ not (replaced twin_of f ms others)
+    → list_any (λ m. g m && not (has_twin twin_of m others)) ms ≡ not (replaced twin_of f ms others)
 unreplaced f g others e [] = refl
 unreplaced f g others e (m ∷ ms) = ap (λ b. (g m && not (has_twin twin_of m others)) || b) (unreplaced f g others e ms) ∙ ap (λ b. (b && not (has_twin twin_of m others)) || not (replaced twin_of f ms others)) (e m) ∙ go (f m) (has_twin twin_of m others) (replaced twin_of f ms others)
   where
@@ -95,10 +95,10 @@ module _ (bs : List Block) where
       → misses (done ++ full b ∷ map full rest) (length done) ≡ not (replaced twin_of (need bs) (nodes_in b) (kept done ++ pool (map nodes_in rest)))
   unfolding misses missed
   missed_here done b rest e =
-      ap (λ l. any (missed all n) (all_of nodes_in (take 1 l))) (drop_at done (full b ∷ map full rest) n refl)
-      ∙ ap (any (missed all n)) (append-nil (nodes_in b))
-      ∙ ap (λ l. any (λ m. need all m && not (has_twin twin_of m (kept l))) (nodes_in b)) others
-      ∙ ap (λ l. any (λ m. need all m && not (has_twin twin_of m l)) (nodes_in b)) (all_of-++ (kept_in nodes_in) done (map full rest) ∙ ap (λ l. kept done ++ l) (kept_full rest))
+      ap (λ l. list_any (missed all n) (flat_map nodes_in (take 1 l))) (drop_at done (full b ∷ map full rest) n refl)
+      ∙ ap (list_any (missed all n)) (append-nil (nodes_in b))
+      ∙ ap (λ l. list_any (λ m. need all m && not (has_twin twin_of m (kept l))) (nodes_in b)) others
+      ∙ ap (λ l. list_any (λ m. need all m && not (has_twin twin_of m l)) (nodes_in b)) (flat_map-append (kept_in nodes_in) done (map full rest) ∙ ap (λ l. kept done ++ l) (kept_full rest))
       ∙ unreplaced (need bs) (need all) (kept done ++ pool (map nodes_in rest)) (same_need all bs e) (nodes_in b)
     where
       all : List Block
@@ -139,11 +139,11 @@ module _ (bs : List Block) where
 
     kept_spent : kept (with_one Spent) ≡ kept done
     unfolding with_one
-    kept_spent = all_of-++ (kept_in nodes_in) done (with_state Spent b ∷ []) ∙ append-nil (kept done)
+    kept_spent = flat_map-append (kept_in nodes_in) done (with_state Spent b ∷ []) ∙ append-nil (kept done)
 
     kept_one : kept (with_one Full) ≡ kept done ++ nodes_in b
     unfolding with_one
-    kept_one = all_of-++ (kept_in nodes_in) done (with_state Full b ∷ []) ∙ ap (λ l. kept done ++ l) (append-nil (nodes_in b))
+    kept_one = flat_map-append (kept_in nodes_in) done (with_state Full b ∷ []) ∙ ap (λ l. kept done ++ l) (append-nil (nodes_in b))
 
     step : (i : ℕ) → length done ≡ i → drop (suc i) bs ≡ rest → map full before ≡ map full bs
         → (x : Bool) → misses before i ≡ not x

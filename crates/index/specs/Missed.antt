@@ -13,7 +13,7 @@
 -- changed       blocks of which that of a number is in another state
 -- marked        blocks with the states that marks give them: spent or full
 use Rattle.std.specs.Prelude.{ℕ, zero, suc, Bool, true, false, cond, not, ◌&&◌, List, [], ◌∷◌, ◌++◌, map, take, drop, ◌==◌}
-use Rattle.tree.specs.Newest.{any}
+use Rattle.std.specs.List.{flat_map, list_any}
 use Rattle.tree.specs.Nodes.{NodeOf, entry, content}
 use Rattle.tree.specs.Lookups.{needed_entry, needed_content}
 use Rattle.tree.specs.Spent.{has_twin}
@@ -22,7 +22,7 @@ use Rattle.index.specs.declared.block.State.{State}
 use Rattle.index.specs.declared.block.State.TheVariants.{Spent, Bare, Open, Full}
 use Rattle.index.specs.declared.record.EntryRecord.{EntryRecord}
 use Rattle.index.specs.declared.record.ContentRecord.{ContentRecord}
-use Rattle.index.specs.Blocks.{all_of, entries_in, contents_in, all_entries, all_contents}
+use Rattle.index.specs.Blocks.{entries_in, contents_in, all_entries, all_contents}
 use Rattle.index.specs.Shown.{entry_shown, span_shown}
 
 abbrev pub Kept : Type 0
@@ -54,10 +54,10 @@ need bs (entry e) = needed_entry entry_shown (all_entries bs) (entry_shown e)
 need bs (content c) = needed_content entry_shown span_shown (all_entries bs) (all_contents bs) (span_shown c)
 
 unfoldable pub missed : List Block → ℕ → Kept → Bool
-missed bs home m = need bs m && not (has_twin twin_of m (all_of (kept_in nodes_in) (elsewhere home bs)))
+missed bs home m = need bs m && not (has_twin twin_of m (flat_map (kept_in nodes_in) (elsewhere home bs)))
 
 unfoldable pub misses : List Block → ℕ → Bool
-misses bs home = any (missed bs home) (all_of nodes_in (take 1 (drop home bs)))
+misses bs home = list_any (missed bs home) (flat_map nodes_in (take 1 (drop home bs)))
 
 abbrev pub with_state : State → Block → Block
 with_state s b = record { state = s; entries = b.entries; contents = b.contents }

@@ -17,3 +17,14 @@ pub struct Block {
     pub entries: Vec<EntryRecord>,
     pub contents: Vec<ContentRecord>,
 }
+
+impl Block {
+    ghost use Rattle.std.specs.Prelude.{◌≡◌};
+    ghost use Rattle.index.specs.Missed.{is_spent};
+
+    pub(crate) fn is_spent(&self) -> bool
+        ensures { result ≡ is_spent self.now.state }
+    {
+        matches!(self.state, State::Spent)
+    }
+}

@@ -6,12 +6,11 @@
 pub mod block;
 pub mod contents;
 pub mod entries;
-mod keyed;
+pub mod kind;
 pub mod name;
 mod needed;
 mod newest;
 pub mod numbers;
-mod pass;
 pub mod record;
 pub mod run;
 pub mod spent;

@@ -1,22 +1,42 @@
 // Names kept inline.
-ghost use Rattle.std.specs.Prelude.{◌≡◌, ◌<◌, length, MatchOption};
-ghost use Rattle.index.specs.Shown.{name_shown};
+ghost use Rattle.std.specs.Prelude.{◌≡◌, ◌≤◌};
 
-use crate::record::Name;
+use std::error::Error;
+use std::fmt;
 
-impl Name {
-    // The name that has these bytes, if they are at most 32.
-    pub fn new(name: &[u8]) -> Option<Name>
-        ensures { MatchOption result (32 < length name.now) (λ n. name_shown n ≡ name.now) }
-    {
+// A name of at most 32 bytes: the first `len` of them. The bytes are inline and not in a Vec, so that a record is Copy and a
+// store allocates nothing once it is set up.
+#[derive(Clone, Copy)]
+pub struct Name {
+    bytes: [u8; 32],
+    len: usize,
+    ghost within: { len ≤ 32 },
+}
+
+// A name is longer than 32 bytes.
+#[derive(Clone, Copy, Debug, PartialEq, Eq)]
+pub struct NameTooLong;
+
+impl TryFrom<&[u8]> for Name {
+    type Error = NameTooLong;
+
+    ghost use Rattle.index.specs.Shown.{IsNameOf};
+
+    ghost try_from_gives = { λ name r. IsNameOf name.now r };
+
+    fn try_from(name: &[u8]) -> Result<Name, NameTooLong> {
         let len = name.len();
         if len > 32 {
-            return None;
+            return Err(NameTooLong);
         }
         let mut bytes = [0; 32];
         bytes[0..len].copy_from_slice(name);
-        Some(Name { bytes, len })
+        Ok(Name { bytes, len })
     }
+}
+
+impl Name {
+    ghost use Rattle.index.specs.Shown.{name_shown};
 
     pub fn as_slice(&self) -> &[u8]
         ensures { result.now ≡ name_shown self.now }

@@ -1,57 +1,28 @@
 // Which nodes the tree cannot do without.
-ghost use Rattle.std.specs.Prelude.{◌≡◌, ◌+◌, ◌^◌, ◌<◌, min, false, ◌&&◌, ◌||◌, fold, nat_lt};
+ghost use Rattle.std.specs.Prelude.{◌≡◌, ◌+◌, ◌^◌, ◌<◌, min};
 ghost use Rattle.tree.specs.Lookups.{any_below, outlives, needed_entry, needed_content, giver, last, length_of, shows};
-ghost use Rattle.tree.specs.Nodes.{titled};
 ghost use Rattle.index.specs.Beaten.{beaten_until};
-ghost use Rattle.index.specs.Blocks.{all_of, entries_in, all_entries, all_contents};
-ghost use Rattle.index.specs.Shown.{name_shown, entry_shown, span_shown};
+ghost use Rattle.index.specs.Blocks.{all_entries, all_contents};
+ghost use Rattle.index.specs.Shown.{entry_shown, span_shown};
 
 use crate::block::Block;
 use crate::contents::{file_length, giver, newest_content};
 use crate::entries::{is_named, newest_entry};
-use crate::keyed::{Keyed, Record, Title};
 use crate::newest::is_unbeaten;
-use crate::pass::{Pass, over_blocks};
 use crate::record::{ContentRecord, EntryRecord};
 use tree::supersedes;
 
-// Looks for an older entry of the same name.
-#[derive(Drop)]
-struct OlderThan<'a> {
-    entry: &'a EntryRecord,
-}
-
-impl Pass<EntryRecord> for OlderThan<'_> {
-    type Answer = bool;
-
-    ghost step = { λ s found e. found || (titled s.entry.now.pino (name_shown s.entry.now.name) (entry_shown e) && nat_lt (entry_shown e).version s.entry.now.version) };
-
-    fn step(&self, found: bool, one: &EntryRecord) -> bool {
-        let title = Title {
-            pino: self.entry.pino,
-            name: self.entry.name.as_slice(),
-        };
-        found || (one.has_key(&title) && supersedes(self.entry.version, one.version))
-    }
-}
-
 // Whether an older entry of the same name stands, in whichever block: its own, and those that are spent, count too.
-fn finds_older(blocks: &[Block], one: &EntryRecord) -> bool
-    ensures { result ≡ fold (λ found e. found || (titled one.now.pino (name_shown one.now.name) (entry_shown e) && nat_lt (entry_shown e).version one.now.version)) false (all_of entries_in blocks.now) }
-{
-    let older = OlderThan { entry: one };
-    over_blocks::<EntryRecord, OlderThan<'_>>(&older, false, blocks)
-}
-
-// Whether an older entry of the same name stands.
 fn outlives(blocks: &[Block], one: &EntryRecord) -> bool
     ensures { result ≡ outlives entry_shown (all_entries blocks.now) (entry_shown one.now) }
 {
-    finds_older(blocks, one)
+    blocks.iter().flat_map(|b| &b.entries).any(|e| e.is_titled(one.pino, one.name.as_slice())
+        && supersedes(one.version, e.version))
 }
 
 // Whether an entry is needed: the newest of its name, and it names a number or an older entry of the name still stands,
 // which a removal keeps from counting again.
+#[tactic(auto, unfolding(tree::specs::Lookups::needed_entry))]
 pub(crate) fn is_entry_needed(blocks: &[Block], entry: &EntryRecord) -> bool
     ensures { result ≡ needed_entry entry_shown (all_entries blocks.now) (entry_shown entry.now) }
 {
@@ -65,16 +36,9 @@ pub(crate) fn is_entry_needed(blocks: &[Block], entry: &EntryRecord) -> bool
 fn beaten_until(blocks: &[Block], content: &ContentRecord, at: u32) -> Option<u32>
     ensures { result ≡ beaten_until content.now.version (giver span_shown (all_contents blocks.now) content.now.ino at) }
 {
-    match giver(blocks, content.ino, at) {
-        Some(other) => {
-            if supersedes(other.version, content.version) {
-                Some(other.offset.saturating_add(other.dsize))
-            } else {
-                None
-            }
-        }
-        None => None,
-    }
+    giver(blocks, content.ino, at)
+        .filter(|other| supersedes(other.version, content.version))
+        .map(|other| other.end())
 }
 
 // Where a content has no more bytes below the length of its file.
@@ -82,7 +46,7 @@ fn shown_end(blocks: &[Block], content: &ContentRecord) -> u32
     ensures value { result ≡ min (length_of span_shown (last span_shown (all_contents blocks.now) content.now.ino)) (content.now.offset + content.now.dsize) }
     ensures fits { result < 2 ^ 32 }
 {
-    file_length(blocks, content.ino).min(content.offset.saturating_add(content.dsize))
+    file_length(blocks, content.ino).min(content.end())
 }
 
 // Whether a content gives a byte below the length of its file. Where a newer one does instead, all its bytes are passed over.
@@ -92,15 +56,16 @@ fn is_shown(blocks: &[Block], content: &ContentRecord) -> bool
     let end = shown_end(blocks, content);
     let mut at = content.offset;
     while at < end {
-        match beaten_until(blocks, content, at) {
-            Some(next) => at = next,
-            None => return true,
-        }
+        let Some(next) = beaten_until(blocks, content, at) else {
+            return true;
+        };
+        at = next;
     }
     false
 }
 
 // Whether a content is needed: its number has a name, and it is the newest of the number or gives a byte below the length.
+#[tactic(auto, unfolding(tree::specs::Lookups::seen))]
 pub(crate) fn is_content_needed(blocks: &[Block], content: &ContentRecord) -> bool
     ensures { result ≡ needed_content entry_shown span_shown (all_entries blocks.now) (all_contents blocks.now) (span_shown content.now) }
 {

@@ -1,71 +1,50 @@
 // Versions and numbers in use.
-ghost use Rattle.std.specs.Prelude.{◌≡◌, ℕ, max};
+ghost use Rattle.std.specs.Prelude.{◌≡◌, max, fold};
+ghost use Rattle.std.specs.List.{flat_map};
 ghost use Rattle.tree.specs.Numbers.{greater_of, highest_version, highest_number};
 ghost use Rattle.index.specs.Blocks.{all_entries, all_contents};
 ghost use Rattle.index.specs.Shown.{entry_shown, span_shown};
 
 use crate::block::Block;
-use crate::keyed::Record;
-use crate::pass::{Pass, over_blocks};
+use crate::kind::Record;
 use crate::record::{ContentRecord, EntryRecord};
 
-// Looks for the highest version of a number.
-#[derive(Drop)]
-struct VersionOf {
-    number: u32,
-}
-
-impl<R: Record> Pass<R> for VersionOf {
-    type Answer = u32;
-
-    ghost step = { λ s n r. greater_of s.number n (R.Record.number r) (R.Record.version r) };
-
-    fn step(&self, so_far: u32, one: &R) -> u32 {
-        if one.number() == self.number {
-            so_far.max(one.version())
+// The highest version of a number among the records of a kind, and at least one found before.
+fn version_among<R: Record>(blocks: &[Block], number: u32, found: u32) -> u32
+    ensures { result ≡ fold (λ n r. greater_of number n (R.number r) (R.version r)) found (flat_map R.listed blocks.now) }
+{
+    blocks.iter().flat_map(|b| R::of(b)).fold(
+        found,
+        |n, r| if r.number() == number {
+            n.max(r.version())
         } else {
-            so_far
-        }
-    }
+            n
+        },
+    )
 }
 
 // The highest version that stands of a number, in either kind, or 0.
 pub fn highest_version(blocks: &[Block], number: u32) -> u32
     ensures { result ≡ highest_version entry_shown span_shown (all_entries blocks.now) (all_contents blocks.now) number }
 {
-    let pass = VersionOf { number };
-    let of_entries = over_blocks::<EntryRecord, VersionOf>(&pass, 0, blocks);
-    over_blocks::<ContentRecord, VersionOf>(&pass, of_entries, blocks)
+    let of_entries = version_among::<EntryRecord>(blocks, number, 0);
+    version_among::<ContentRecord>(blocks, number, of_entries)
 }
 
-// Looks for the highest number.
-#[derive(Drop)]
-struct Numbers;
-
-impl Pass<EntryRecord> for Numbers {
-    type Answer = u32;
-
-    ghost step = { λ _ n e. max n (max e.pino e.ino) };
-
-    fn step(&self, so_far: u32, one: &EntryRecord) -> u32 {
-        so_far.max(one.pino.max(one.ino))
-    }
-}
-
-impl Pass<ContentRecord> for Numbers {
-    type Answer = u32;
-
-    ghost step = { λ _ n c. max n c.ino };
-
-    fn step(&self, so_far: u32, one: &ContentRecord) -> u32 {
-        so_far.max(one.ino)
-    }
+// The highest number among the records of a kind, and at least one found before.
+fn number_among<R: Record>(blocks: &[Block], found: u32) -> u32
+    ensures { result ≡ fold (λ n r. max n (R.highest r)) found (flat_map R.listed blocks.now) }
+{
+    blocks
+        .iter()
+        .flat_map(|b| R::of(b))
+        .fold(found, |n, r| n.max(r.highest()))
 }
 
 // The highest number that stands in any field, and at least 1, the root's.
 pub fn highest_number(blocks: &[Block]) -> u32
     ensures { result ≡ highest_number entry_shown span_shown (all_entries blocks.now) (all_contents blocks.now) }
 {
-    let of_entries = over_blocks::<EntryRecord, Numbers>(&Numbers, 1, blocks);
-    over_blocks::<ContentRecord, Numbers>(&Numbers, of_entries, blocks)
+    let of_entries = number_among::<EntryRecord>(blocks, 1);
+    number_among::<ContentRecord>(blocks, of_entries)
 }

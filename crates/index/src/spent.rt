@@ -1,171 +1,124 @@
 // Which blocks can be done without.
-ghost use Rattle.std.specs.Prelude.{◌≡◌, suc, ◌<◌, Bool, ◌&&◌, ◌||◌, List, [], map, length, take, drop, if◌then◌else◌, fold, ◌==◌};
-ghost use Rattle.tree.specs.Newest.{any};
+ghost use Rattle.std.specs.Prelude.{◌≡◌, suc, ◌<◌, ◌&&◌, ◌||◌, List, [], map, length, take, drop, if◌then◌else◌, ◌==◌};
+ghost use Rattle.std.specs.List.{flat_map, list_any};
 ghost use Rattle.tree.specs.Nodes.{entry, content};
-ghost use Rattle.tree.specs.Spent.{marks};
-ghost use Rattle.index.specs.Blocks.{all_of};
-ghost use Rattle.index.specs.Missed.{is_spent, nodes_in, kept_in, elsewhere, twin_of, need, missed, misses, with_state, changed, marked};
+ghost use Rattle.tree.specs.Spent.{has_twin, marks};
+ghost use Rattle.index.specs.Blocks.{entries_in, contents_in};
+ghost use Rattle.index.specs.Missed.{Kept, nodes_in, kept_in, elsewhere, twin_of, need, missed, misses, with_state, changed, marked};
 
 use crate::block::{Block, State};
-use crate::keyed::Record;
+use crate::kind::Record;
 use crate::needed::{is_content_needed, is_entry_needed};
-use crate::pass::{Pass, over_records};
 use crate::record::{ContentRecord, EntryRecord};
 
-impl State {
-    pub(crate) fn is_spent(self) -> bool
-        ensures { result ≡ is_spent self }
-    {
-        match self {
-            State::Spent => true,
-            State::Bare | State::Open { .. } | State::Full => false,
-        }
-    }
-}
-
-// What a pass finds in a block, unless it is spent.
-fn over_unspent<R: Record, P: Pass<R>>(pass: &P, from: P::Answer, block: &Block) -> P::Answer
-    ensures { result ≡ fold (P.Pass.step pass.now) from (kept_in R.Record.listed block.now) }
+// What a block has of a kind, if it is not spent.
+fn kept<R: Record>(block: &Block) -> &[R]
+    ensures { result.now ≡ kept_in R.listed block.now }
 {
-    if block.state.is_spent() {
-        from
-    } else {
-        over_records(pass, from, R::of(block))
-    }
+    if block.is_spent() { &[] } else { R::of(block) }
 }
 
-// The answer after the records of all blocks that are not spent.
-pub(crate) fn over_kept<R: Record, P: Pass<R>>(
-    pass: &P,
-    from: P::Answer,
-    blocks: &[Block],
-) -> P::Answer
-    ensures { result ≡ fold (P.Pass.step pass.now) from (all_of (kept_in R.Record.listed) blocks.now) }
+// Whether a block that is not spent has a record of the kind, number and version of one.
+fn stands_in<R: Record>(blocks: &[Block], one: &R) -> bool
+    ensures { result ≡ list_any (λ x. R.number x == R.number one.now && R.version x == R.version one.now) (flat_map (kept_in R.listed) blocks.now) }
 {
-    let mut answer = from;
-    for block in blocks {
-        answer = over_unspent(pass, answer, block);
-    }
-    answer
+    blocks.iter().flat_map(|b| kept::<R>(b)).any(|r| r.number() == one.number()
+        && r.version() == one.version())
 }
 
-// Looks for a copy of a node.
-#[derive(Drop)]
-struct TwinOf {
-    number: u32,
-    version: u32,
-}
-
-impl<R: Record> Pass<R> for TwinOf {
-    type Answer = bool;
-
-    ghost step = { λ s found r. found || (R.Record.number r == s.number && R.Record.version r == s.version) };
-
-    fn step(&self, found: bool, one: &R) -> bool {
-        found || (one.number() == self.number && one.version() == self.version)
-    }
-}
-
-// The blocks below that of a number.
-pub(crate) fn below(blocks: &[Block], home: usize) -> &[Block]
-    ensures { result.now ≡ take home blocks.now }
+// The blocks below that of a number, and those above it.
+fn others(blocks: &[Block], home: usize) -> (&[Block], &[Block])
+    ensures below { result.0.now ≡ take home blocks.now }
+    ensures above { result.1.now ≡ drop (suc home) blocks.now }
 {
-    if home >= blocks.len() {
-        return blocks;
+    let (below, rest) = blocks.split_at(home.min(blocks.len()));
+    (below, &rest[1.min(rest.len())..])
+}
+
+// Whether one of the blocks other than `home` does.
+fn stands_elsewhere<R: Record>(blocks: &[Block], home: usize, one: &R) -> bool
+    ensures { result ≡ list_any (λ x. R.number x == R.number one.now && R.version x == R.version one.now) (flat_map (kept_in R.listed) (elsewhere home blocks.now)) }
+{
+    let (below, above) = others(blocks, home);
+    stands_in(below, one) || stands_in(above, one)
+}
+
+// A record as a node of the tree, which may need it.
+pub trait Node: Record {
+    ghost node: { Self → Kept };
+
+    fn is_needed(&self, blocks: &[Block]) -> bool
+        ensures { result ≡ need blocks.now (node self.now) };
+
+    // Whether a block other than `home` that is not spent has a twin.
+    fn has_twin(&self, blocks: &[Block], home: usize) -> bool
+        ensures { result ≡ has_twin twin_of (node self.now) (flat_map (kept_in nodes_in) (elsewhere home blocks.now)) };
+}
+
+impl Node for EntryRecord {
+    ghost node = { entry };
+
+    #[tactic(auto, unfolding(crate::specs::Missed::need))]
+    fn is_needed(&self, blocks: &[Block]) -> bool {
+        is_entry_needed(blocks, self)
     }
-    &blocks[0..home]
-}
 
-// The blocks above that of a number.
-pub(crate) fn above(blocks: &[Block], home: usize) -> &[Block]
-    ensures { result.now ≡ drop (suc home) blocks.now }
-{
-    if home >= blocks.len() {
-        return &blocks[blocks.len()..];
-    }
-    &blocks[home + 1..]
-}
-
-// Whether a block other than `home` that is not spent has a twin of a node.
-fn has_twin<R: Record>(blocks: &[Block], home: usize, record: &R) -> bool
-    ensures { result ≡ any (λ x. (R.Record.number x == R.Record.number «record».now) && R.Record.version x == R.Record.version «record».now) (all_of (kept_in R.Record.listed) (elsewhere home blocks.now)) }
-{
-    let twin = TwinOf {
-        number: record.number(),
-        version: record.version(),
-    };
-    let found = over_kept::<R, TwinOf>(&twin, false, below(blocks, home));
-    over_kept::<R, TwinOf>(&twin, found, above(blocks, home))
-}
-
-// Whether an entry would be missed without its block `home`: it is needed, and no other block that is not spent has a twin.
-pub fn is_entry_missed(blocks: &[Block], home: usize, one: &EntryRecord) -> bool
-    ensures { result ≡ missed blocks.now home (entry one.now) }
-{
-    is_entry_needed(blocks, one) && !has_twin(blocks, home, one)
-}
-
-// The same of a content.
-pub fn is_content_missed(blocks: &[Block], home: usize, one: &ContentRecord) -> bool
-    ensures { result ≡ missed blocks.now home (content one.now) }
-{
-    is_content_needed(blocks, one) && !has_twin(blocks, home, one)
-}
-
-// Looks for a node that would be missed without its block.
-#[derive(Drop)]
-struct Missing<'a> {
-    blocks: &'a [Block],
-    home: usize,
-}
-
-impl Pass<EntryRecord> for Missing<'_> {
-    type Answer = bool;
-
-    ghost step = { λ s found e. found || missed s.blocks.now s.home (entry e) };
-
-    fn step(&self, found: bool, one: &EntryRecord) -> bool {
-        found || is_entry_missed(self.blocks, self.home, one)
+    fn has_twin(&self, blocks: &[Block], home: usize) -> bool {
+        stands_elsewhere(blocks, home, self)
     }
 }
 
-impl Pass<ContentRecord> for Missing<'_> {
-    type Answer = bool;
+impl Node for ContentRecord {
+    ghost node = { content };
 
-    ghost step = { λ s found c. found || missed s.blocks.now s.home (content c) };
-
-    fn step(&self, found: bool, one: &ContentRecord) -> bool {
-        found || is_content_missed(self.blocks, self.home, one)
+    #[tactic(auto, unfolding(crate::specs::Missed::need))]
+    fn is_needed(&self, blocks: &[Block]) -> bool {
+        is_content_needed(blocks, self)
     }
+
+    fn has_twin(&self, blocks: &[Block], home: usize) -> bool {
+        stands_elsewhere(blocks, home, self)
+    }
+}
+
+// Whether a node would be missed without its block `home`: it is needed, and no other block that is not spent has a twin.
+#[tactic(auto, unfolding(crate::specs::Missed::missed))]
+pub fn is_missed<N: Node>(blocks: &[Block], home: usize, one: &N) -> bool
+    ensures { result ≡ missed blocks.now home (N.node one.now) }
+{
+    one.is_needed(blocks) && !one.has_twin(blocks, home)
+}
+
+// Whether one of some records would be missed without the block `home`.
+fn is_any_missed<N: Node>(blocks: &[Block], home: usize, records: &[N]) -> bool
+    ensures { result ≡ list_any (λ r. missed blocks.now home (N.node r)) records.now }
+{
+    records.iter().any(|r| is_missed(blocks, home, r))
+}
+
+// Whether a record of a block would.
+fn has_missed(blocks: &[Block], home: usize, block: &Block) -> bool
+    ensures { result ≡ (list_any (λ e. missed blocks.now home (entry e)) (entries_in block.now) || list_any (λ c. missed blocks.now home (content c)) (contents_in block.now)) }
+{
+    is_any_missed::<EntryRecord>(blocks, home, &block.entries)
+        || is_any_missed::<ContentRecord>(blocks, home, &block.contents)
 }
 
 // Whether a block has a node that would be missed without it.
 fn misses(blocks: &[Block], home: usize) -> bool
     ensures { result ≡ misses blocks.now home }
 {
-    if home >= blocks.len() {
-        return false;
-    }
-    let block = &blocks[home];
-    let missing = Missing { blocks, home };
-    let found = over_records(&missing, false, block.entries.as_slice());
-    over_records(&missing, found, block.contents.as_slice())
-}
-
-// Puts a block into a state.
-fn set_state(blocks: &mut [Block], i: usize, state: State)
-    requires { i < length blocks.old }
-    ensures { blocks.new ≡ changed i state blocks.old }
-{
-    blocks[i].state = state;
+    blocks
+        .get(home)
+        .is_some_and(|b| has_missed(blocks, home, b))
 }
 
 // Takes every block for full.
 fn fill_all(blocks: &mut [Block])
     ensures { blocks.new ≡ map (with_state State.Full) blocks.old }
 {
-    for i in 0..blocks.len() {
-        set_state(blocks, i, State::Full);
+    for block in blocks.iter_mut() {
+        block.state = State::Full;
     }
 }
 
@@ -175,11 +128,11 @@ fn judge(blocks: &mut [Block], i: usize)
     ensures { blocks.new ≡ (if misses blocks.old i then blocks.old else changed i State.Spent blocks.old) }
 {
     if !misses(blocks, i) {
-        set_state(blocks, i, State::Spent);
+        blocks[i].state = State::Spent;
     }
 }
 
-// Judges full blocks in rising order.
+// Judges full blocks in rising order. By their numbers, since all blocks are looked at while one of them changes.
 fn judge_all(blocks: &mut [Block])
     requires { blocks.old ≡ map (with_state State.Full) blocks.old }
     ensures { blocks.new ≡ marked (marks twin_of (need blocks.old) [] (map nodes_in blocks.old)) blocks.old }

@@ -1,8 +1,9 @@
 -- Which numbers have a name.
 use Rattle.std.proofs.Common.{◌≡◌, ℕ, Bool, true, false, cond, eqb, ◌⊎◌, List, [], ◌∷◌, Some, None, Decides, Option, sym, refl, ap, ◌∙◌, subst₂, inl, inr}
+use Rattle.std.specs.List.{list_any}
 use Rattle.std.proofs.lemmas.Bool.Decides.{eqb_tells, Decides-eqb, Decides-or, Decides-and, Decides-not, Decides-like}
 use Rattle.nodes.specs.Records.{Entry}
-use Rattle.tree.specs.Newest.{In, first, later, any}
+use Rattle.tree.specs.Newest.{In, first, later}
 use Rattle.tree.specs.Nodes.{Node, entries, titled, Uniq}
 use Rattle.tree.specs.Lookups.{leading, counts, named}
 use Rattle.tree.specs.Tree.{tree, title, target, target_of, Names, Target}
@@ -32,10 +33,10 @@ target_of_one e z = go (eqb_tells e.ino 0)
 
 -- some record of a list passes a test
 pub decides_any : {A : Type 0} (f : A → Bool) (P : A → Type 0) (xs : List A) → ((x : A) → In x xs → Decides (f x) (P x))
-    → Decides (any f xs) ((x : A) × In x xs × P x)
+    → Decides (list_any f xs) ((x : A) × In x xs × P x)
 decides_any f P [] d = (λ q. absurd (true_false q refl), λ h. elim h.1 [ ])
 decides_any {A} f P (y ∷ ys) d =
-    Decides-like _ to from (Decides-or (f y) (any f ys) (d y (first refl)) (decides_any f P ys (λ x i. d x (later i))))
+    Decides-like _ to from (Decides-or (f y) (list_any f ys) (d y (first refl)) (decides_any f P ys (λ x i. d x (later i))))
   where
     to : P y ⊎ ((x : A) × In x ys × P x) → (x : A) × In x (y ∷ ys) × P x
     to (inl e) = (y, first refl, e)
@@ -103,7 +104,7 @@ decides_leads k (Some r) = (led, leading_is)
 -- a number has a name or has none
 pub decide_names : (p : List Node) (k : ℕ) → Names (tree p) k ⊎ (Names (tree p) k → ⊥)
 decide_names p k =
-    go (any (λ e. leads k (there e)) (entries p)) (decides_any _ Led (entries p) (λ e i. decides_leads k (there e)))
+    go (list_any (λ e. leads k (there e)) (entries p)) (decides_any _ Led (entries p) (λ e i. decides_leads k (there e)))
   where
     there : Entry → Option Target
     there e = (tree p).there e.pino e.name

@@ -1,7 +1,8 @@
 -- Look-ups among records of nodes: what is found among the records is, by what they are records of, what is found among those.
 use Rattle.std.proofs.Common.{◌≡◌, ℕ, Bool, true, false, cond, not, ◌&&◌, ◌||◌, eqb, ltb, leb, List, [], ◌∷◌, map, Some, None, Option, refl, ap, ◌∙◌}
+use Rattle.std.specs.List.{list_any}
 use Rattle.nodes.specs.Records.{Entry}
-use Rattle.tree.specs.Newest.{over, newest, any, at_most, unbeaten}
+use Rattle.tree.specs.Newest.{over, newest, at_most, unbeaten}
 use Rattle.tree.specs.Nodes.{Span, span_of, titled, of_file, covers}
 use Rattle.tree.specs.Lookups.{carried, any_below, title, leading, counts, named, needed_entry, last, giver, length_of, shows, seen, needed_content}
 use Rattle.tree.specs.Laws.{LookupsOfRecords}
@@ -33,7 +34,7 @@ module _ {A B : Type 0} (f : A → B) where
     unbeaten_carried rs v =
         ap (at_most version v) (newest_carried rs) ∙ at_most_carried v (newest (λ a. version (f a)) (λ a. picked (f a)) rs)
 
-  any_carried : (g : B → Bool) (rs : List A) → any g (map f rs) ≡ any (λ a. g (f a)) rs
+  any_carried : (g : B → Bool) (rs : List A) → list_any g (map f rs) ≡ list_any (λ a. g (f a)) rs
   any_carried g [] = refl
   any_carried g (r ∷ rs) = ap (λ b. g (f r) || b) (any_carried g rs)
 
@@ -52,7 +53,7 @@ module _ {A B : Type 0} (f : A → B) where
     unfolding named
     named_carried k =
         any_carried (λ e. eqb (fields e).ino k && counts fields (map f rs) (fields e)) rs ∙
-        (λ i. any (λ a. eqb (fields (f a)).ino k && counts_carried (fields (f a)) i) rs)
+        (λ i. list_any (λ a. eqb (fields (f a)).ino k && counts_carried (fields (f a)) i) rs)
 
     pub needed_entry_carried : (e : Entry) → needed_entry fields (map f rs) e ≡ needed_entry (λ a. fields (f a)) rs e
     unfolding needed_entry

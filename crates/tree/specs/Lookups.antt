@@ -9,8 +9,9 @@
 -- needed_entry, needed_content   whether a node is needed (the subject's own words for it are in Needed.antt)
 -- carried     what was looked up, by what it is a record of
 use Rattle.std.specs.Prelude.{ℕ, zero, suc, Bool, false, not, ◌&&◌, ◌||◌, List, Some, None, Option, ◌==◌, nat_lt}
+use Rattle.std.specs.List.{list_any}
 use Rattle.nodes.specs.Records.{Entry}
-use Rattle.tree.specs.Newest.{newest, any, unbeaten}
+use Rattle.tree.specs.Newest.{newest, unbeaten}
 use Rattle.tree.specs.Nodes.{Span, titled, of_file, covers}
 
 abbrev pub carried : {A B : Type 0} → (A → B) → Option A → Option B
@@ -37,11 +38,11 @@ module _ {E : Type 0} (fields : E → Entry) where
   counts es e = not (e.ino == 0) && leading es e
 
   unfoldable pub named : List E → ℕ → Bool
-  named es k = any (λ e. ((fields e).ino == k) && counts es (fields e)) es
+  named es k = list_any (λ e. ((fields e).ino == k) && counts es (fields e)) es
 
   -- an older entry of the name stands
   abbrev pub outlives : List E → Entry → Bool
-  outlives es e = any (λ f. titled e.pino e.name (fields f) && nat_lt (fields f).version e.version) es
+  outlives es e = list_any (λ f. titled e.pino e.name (fields f) && nat_lt (fields f).version e.version) es
 
   unfoldable pub needed_entry : List E → Entry → Bool
   needed_entry es e = leading es e && (not (e.ino == 0) || outlives es e)

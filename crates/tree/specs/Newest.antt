@@ -2,11 +2,10 @@
 -- stand. Assumes nothing.
 --
 -- In, Within   x stands in a list; all of a list stands in another
--- any          whether some element passes a test
 -- newest       of the records that are picked, the one of the highest version; of twins the first that is met
 -- scan         the same, record by record, with the best so far
 -- unbeaten     whether no record that is picked has a version above v
-use Rattle.std.specs.Prelude.{◌≡◌, ℕ, Bool, true, false, cond, ◌||◌, List, [], ◌∷◌, Some, None, fold, Option, nat_le}
+use Rattle.std.specs.Prelude.{◌≡◌, ℕ, Bool, true, cond, List, [], ◌∷◌, Some, None, fold, Option, nat_le}
 
 pub data In {A : Type 0} (x : A) : List A → Type 0 where
   first : {y : A} {ys : List A} → x ≡ y → In x (y ∷ ys)
@@ -14,10 +13,6 @@ pub data In {A : Type 0} (x : A) : List A → Type 0 where
 
 abbrev pub Within : {A : Type 0} → List A → List A → Type 0
 Within {A} xs ys = (x : A) → In x xs → In x ys
-
-abbrev pub any : {A : Type 0} → (A → Bool) → List A → Bool
-any f [] = false
-any f (x ∷ xs) = f x || any f xs
 
 module _ {R : Type 0} (version : R → ℕ) where
   -- r, or what is newer than it

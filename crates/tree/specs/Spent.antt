@@ -7,7 +7,7 @@
 --             in another block not so far found spent. The nodes of the blocks found full are handed on
 -- unspent     the nodes of the blocks that are not marked spent
 use Rattle.std.specs.Prelude.{Bool, true, false, cond, not, ◌&&◌, ◌||◌, List, [], ◌∷◌, ◌++◌}
-use Rattle.tree.specs.Newest.{any}
+use Rattle.std.specs.List.{list_any}
 
 abbrev pub pool : {N : Type 0} → List (List N) → List N
 pool [] = []
@@ -15,7 +15,7 @@ pool (b ∷ bs) = b ++ pool bs
 
 module _ {N : Type 0} (twin : N → N → Bool) where
   abbrev pub has_twin : N → List N → Bool
-  has_twin m = any (twin m)
+  has_twin m = list_any (twin m)
 
   module _ (need : N → Bool) where
     abbrev pub replaced : List N → List N → Bool

@@ -5,9 +5,11 @@ use index::block::{Block, State};
 use index::contents::{file_length, run_at};
 use index::entries::{count_names, entry_of, next_entry};
 use index::numbers::{highest_number, highest_version};
-use index::record::{ContentRecord, EntryRecord, Name};
-use index::spent::{find_spent, is_content_missed, is_entry_missed};
+use index::name::{Name, NameTooLong};
+use index::record::{ContentRecord, EntryRecord};
+use index::spent::{find_spent, is_missed};
 use std::alloc::{AllocFailed, Global};
+use std::num::TryFromIntError;
 
 // A change that cannot be made.
 #[derive(Clone, Copy)]
@@ -15,6 +17,18 @@ pub(crate) struct NotPossible;
 
 impl<T: Drop> From<AllocFailed<T>> for NotPossible {
     fn from(_failed: AllocFailed<T>) -> NotPossible {
+        NotPossible
+    }
+}
+
+impl From<TryFromIntError> for NotPossible {
+    fn from(_too_large: TryFromIntError) -> NotPossible {
+        NotPossible
+    }
+}
+
+impl From<NameTooLong> for NotPossible {
+    fn from(_too_long: NameTooLong) -> NotPossible {
         NotPossible
     }
 }
@@ -54,10 +68,10 @@ fn missed(blocks: &[Block]) -> usize {
     let mut bits = 1;
     for (home, block) in blocks.iter().enumerate() {
         for entry in &block.entries {
-            bits = with_bit(bits, is_entry_missed(blocks, home, entry));
+            bits = with_bit(bits, is_missed(blocks, home, entry));
         }
         for content in &block.contents {
-            bits = with_bit(bits, is_content_missed(blocks, home, content));
+            bits = with_bit(bits, is_missed(blocks, home, content));
         }
     }
     bits
@@ -123,8 +137,8 @@ impl Table {
                 pino,
                 version,
                 ino,
-                dtype: u8::try_from(dtype).map_err(|_| NotPossible)?,
-                name: Name::new(name.as_bytes()).ok_or(NotPossible)?,
+                dtype: u8::try_from(dtype)?,
+                name: Name::try_from(name.as_bytes())?,
             }),
             Change::Content(content) => self.add_content(content),
             Change::Find => {

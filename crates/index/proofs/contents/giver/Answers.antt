@@ -1,6 +1,7 @@
-use Rattle.index.specs.Blocks.{all_contents}
+use Rattle.std.proofs.Common.{rules}
+use Rattle.tree.specs.Nodes.{of_file}
 use Rattle.index.proofs.contents.giver.Goals as goal
 
 pub returns : goal.returns
-unfolding all_contents
-returns c = c.newest.ensures
+unfolding of_file
+returns c = c.newest.ensures _ (λ r b q k. search rules)

@@ -1,6 +1,5 @@
-use Rattle.index.specs.Blocks.{all_entries}
+use Rattle.std.proofs.Common.{rules}
 use Rattle.index.proofs.entries.newest_entry.Goals as goal
 
 pub returns : goal.returns
-unfolding all_entries
-returns c = c.newest.ensures
+returns c = c.newest.ensures _ (λ r b q k. search rules)

@@ -32,12 +32,12 @@ loop-at-preserved c =
       ],
     )
 
-pub returns-in-None : goal.returns-in-None
-returns-in-None c =
+pub returns-in_default : goal.returns-in_default
+returns-in_default c =
     let cs = all_contents c.args.blocks.now in
     let s = span_shown c.args.content.now in
     let end = c.shown_end-end.ensures.value in
-    let here = shows_here span_shown cs s c.loop-at.at c.loop-at.invariant.0 (omega (arith, c.loop-at-test.true, end)) (not_beaten s.version (giver span_shown cs s.ino c.loop-at.at) c.in-None.ensures) in
+    let here = shows_here span_shown cs s c.loop-at.at c.loop-at.invariant.0 (omega (arith, c.loop-at-test.true, end)) (not_beaten s.version (giver span_shown cs s.ino c.loop-at.at) c.in_default.ensures) in
     sym (any_below_some (shows span_shown cs s) (length_of span_shown (last span_shown cs s.ino)) c.loop-at.at (omega (arith, c.loop-at-test.true, end)) here)
 
 pub returns : goal.returns
