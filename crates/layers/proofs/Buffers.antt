@@ -1,108 +1,90 @@
 -- The steps of a program, one after the other, as a write buffer makes them.
-use Rattle.std.proofs.Common.{◌≡◌, ℕ, ◌+◌, ◌-◌, ◌%◌, ◌≤◌, List, [], length, take, replicate, Some, None, Ok, Err, sym, refl}
+use Rattle.std.proofs.Common.{◌≡◌, ℕ, ◌+◌, ◌-◌, ◌%◌, ◌<◌, ◌≤◌, List, [], length, take, drop, Some, None, Ok, Err, arith}
+use borrow.Rule.Slice.PartMut.{put_mid}
 use native.Mathlib.Nat.{zero-mod}
+use Rattle.flash.specs.Extent.{used}
 use Rattle.flash.specs.Meaning.{Meaning, Sane}
 use Rattle.flash.specs.Refused.{program_refusal}
-use Rattle.flash.specs.Rules.{Answer, Programmed}
+use Rattle.flash.specs.Rules.{Answer, Goes, Programmed}
+use Rattle.flash.specs.declared.interface.Flash.{Ghosts}
 use Rattle.flash.specs.declared.place.Place.{Place}
 use Rattle.flash.specs.declared.refusal.Refusal.{Refusal}
 use Rattle.flash.proofs.Chain.{chain_first, chain_failed}
-use Rattle.flash.proofs.Parts.{front, back, split_first, split_rest, split_then, split_failed, nothing_rest, nothing_then}
-use Rattle.layers.specs.Batch.{turn}
-use Rattle.layers.specs.Buffered.{buffered, means, IsSound, Accepts, IsLaid, IsNear}
+use Rattle.flash.proofs.Parts.{split_first, split_rest, split_then, split_failed, nothing_rest, nothing_then}
+use Rattle.layers.specs.Batch.{turn, begun}
+use Rattle.layers.specs.Buffered.{buffered, Holding}
+use Rattle.layers.specs.WriteBuffer.{means, IsNear}
+use Rattle.layers.specs.Sanity.{sound_of, means-sane}
+use Rattle.layers.specs.declared.buffer.State.{State}
 use Rattle.layers.specs.declared.buffer.State.TheVariants.{Empty}
-use Rattle.layers.specs.declared.buffer.Turn.TheVariants.{Other, First, Here}
 use Rattle.layers.specs.declared.buffer.WriteBuffer.{WriteBuffer}
-use Rattle.layers.proofs.Moves.{full_long}
-use Rattle.layers.proofs.Sanity.{sane_buffered}
-use Rattle.layers.proofs.Told.{tells_first, not_other, tells_here}
+use Rattle.layers.proofs.Put.{put_batch}
+use Rattle.layers.proofs.Told.{tells_kept, tells_first}
 use Rattle.layers.proofs.Turns.{turn_first}
-use Rattle.layers.proofs.Words.{whole_words, room_words}
 
 abbrev pub behind : Place → ℕ → Place
 behind at k = record { block = at.block; offset = at.offset + k }
 
-module _ {F : Type 0} (ok : F → Type 0) (meaning : F → Meaning) where
-  pub long_of : (w : WriteBuffer F) → IsSound ok meaning w → length (take w.batch w.held) ≡ (meaning w.below).batch
-  long_of w s = full_long (meaning w.below).batch w.batch w.held s.same w.small w.full
+module _ (m : Meaning) {at at' : Place} {run run' : List ℕ} (e : (at' ≡ at) × (run' ≡ run)) where
+  same_accepted : program_refusal m at.block at.offset (length run) ≡ None → program_refusal m at'.block at'.offset (length run') ≡ None
+  same_accepted h = rw (e.0, e.1) h
 
-  pub sane_of : (w : WriteBuffer F) → IsSound ok meaning w → Sane (means meaning w)
-  sane_of w s = sane_buffered (meaning w.below) s.bears (take w.batch w.held) (long_of w s) w.state s.holding
+  same_goes : {r : Answer} {n : Meaning} → Goes m at'.block at'.offset run' r n → Goes m at.block at.offset run r n
+  same_goes h = rw (← e.0, ← e.1) h
 
-  words_of : (w : WriteBuffer F) (k : ℕ) → k % 4 ≡ 0 → k % (means meaning w).page ≡ 0
-  unfolding buffered
-  words_of w k h = h
+module _ {F : Type 0} {g : Ghosts F} (sane : (x : F) → Sane (g.meaning x)) (w : WriteBuffer F g) (at : Place) (run : List ℕ) (none : program_refusal (means w) at.block at.offset (length run) ≡ None) where
+  -- a run in two parts, of which the first is k bytes long
+  module _ {k : ℕ} (within : k ≤ length run) (words : k % 4 ≡ 0) {at' : Place} {first : List ℕ} (is : (at' ≡ at) × (first ≡ take k run)) where
+    pages : k % (means w).page ≡ 0
+    unfolding buffered
+    pages = words
 
-  module _ (w : WriteBuffer F) (at : Place) (run : List ℕ) (s : IsSound ok meaning w) (none : Accepts meaning w at (length run)) where
-    -- a run in two parts, of which the first is k bytes long
-    module _ (k : ℕ) (within : k ≤ length run) (words : k % 4 ≡ 0) (v : WriteBuffer F) where
-      pub in_two : (x : WriteBuffer F) (r : Answer)
-          → (Accepts meaning w at (length (front k run within)) → IsLaid ok meaning w at (front k run within) (Ok tt) v)
-          → (IsSound ok meaning v → Accepts meaning v (behind at k) (length (back k run within)) → IsLaid ok meaning v (behind at k) (back k run within) r x)
-          → IsLaid ok meaning w at run r x
-      in_two x r first second =
-          let pages = words_of w k words in
-          let d = first (split_first k run within (means meaning w) at.block at.offset (sane_of w s) none pages) in
-          let p = second d.0 (split_rest k run within (means meaning w) at.block at.offset (sane_of w s) none pages (means meaning v) d.1) in
-          (p.0, split_then k run within (means meaning w) at.block at.offset (sane_of w s) none pages (means meaning v) (means meaning x) r d.1 p.1)
+    pub first_accepted : program_refusal (means w) at'.block at'.offset (length first) ≡ None
+    first_accepted = same_accepted (means w) is (split_first k run within (means w) at.block at.offset (means-sane sane w) none pages)
 
-      pub in_first : (e : Refusal) → (Accepts meaning w at (length (front k run within)) → IsLaid ok meaning w at (front k run within) (Err e) v) → IsLaid ok meaning w at run (Err e) v
-      in_first e first =
-          let pages = words_of w k words in
-          let d = first (split_first k run within (means meaning w) at.block at.offset (sane_of w s) none pages) in
-          (d.0, split_failed k run within (means meaning w) at.block at.offset (sane_of w s) none pages (means meaning v) e d.1)
+    pub in_first : {n : Meaning} {e : Refusal} → Goes (means w) at'.block at'.offset first (Err e) n → Goes (means w) at.block at.offset run (Err e) n
+    in_first {n} {e} h = split_failed k run within (means w) at.block at.offset (means-sane sane w) none pages n e (same_goes (means w) is h)
 
-    -- a run after one of nothing
-    module _ (v : WriteBuffer F) where
-      none_first : Accepts meaning w at 0
-      none_first = chain_first (means meaning w) at.block at.offset [] run (sane_of w s) none (zero-mod (means meaning w).page)
+    module _ {at'' : Place} {rest : List ℕ} (is' : (at'' ≡ behind at k) × (rest ≡ drop k run)) {n : Meaning} (h : Goes (means w) at'.block at'.offset first (Ok tt) n) where
+      pub rest_accepted : program_refusal n at''.block at''.offset (length rest) ≡ None
+      rest_accepted = same_accepted n is' (split_rest k run within (means w) at.block at.offset (means-sane sane w) none pages n (same_goes (means w) is h))
 
-      pub after_none : (x : WriteBuffer F) (r : Answer)
-          → (Accepts meaning w at 0 → IsLaid ok meaning w at [] (Ok tt) v)
-          → (IsSound ok meaning v → Accepts meaning v at (length run) → IsLaid ok meaning v at run r x)
-          → IsLaid ok meaning w at run r x
-      after_none x r first second =
-          let d = first none_first in
-          let p = second d.0 (nothing_rest (means meaning w) (means meaning v) at.block at.offset run (sane_of w s) none d.1) in
-          (p.0, nothing_then (means meaning w) (means meaning v) (means meaning x) at.block at.offset run r (sane_of w s) none d.1 p.1)
+      pub in_two : {n' : Meaning} {r : Answer} → Goes n at''.block at''.offset rest r n' → Goes (means w) at.block at.offset run r n'
+      in_two {n'} {r} h' =
+          split_then k run within (means w) at.block at.offset (means-sane sane w) none pages n n' r (same_goes (means w) is h) (same_goes n is' h')
 
-      pub in_none : (e : Refusal) → (Accepts meaning w at 0 → IsLaid ok meaning w at [] (Err e) v) → IsLaid ok meaning w at run (Err e) v
-      in_none e first =
-          let d = first none_first in
-          (d.0, chain_failed (means meaning w) at.block at.offset [] run (sane_of w s) none (zero-mod (means meaning w).page) (means meaning v) e d.1)
+  -- a run after one of nothing
+  none_accepted : program_refusal (means w) at.block at.offset 0 ≡ None
+  none_accepted = chain_first (means w) at.block at.offset [] run (means-sane sane w) none (zero-mod (means w).page)
 
-  -- the held batch goes down before a run behind it
-  module _ (w v : WriteBuffer F) (at : Place) (c t : ℕ) (asked : First c t ≡ turn w.state at.block at.offset w.batch) (s : IsSound ok meaning w) where
-    pub sends_first : (r : Answer) → ok v.below × Sane (meaning v.below) × Programmed (meaning w.below) c t (take w.batch w.held) r (meaning v.below)
-        → v.held ≡ replicate 512 255 → v.state ≡ Empty → v.batch ≡ w.batch → Accepts meaning w at 0 → IsLaid ok meaning w at [] r v
-    sends_first r d blank e g none =
-        let q = turn_first at.block at.offset w.batch w.state c t asked in
-        tells_first (meaning w.below) w.batch c t w.held at.block at.offset q.0 s w.small w.full none r (meaning v.below) d.0 d.1 q.1 d.2 v.held blank v.state e v.batch g
+  -- the held batch was passed down before a run
+  module _ {start : Place} (asked : Ok (Some start) ≡ turn w.state at.block at.offset w.batch) (v : WriteBuffer F g) (same : v.batch ≡ w.batch) (empty : v.state ≡ Empty) where
+    emptied : (r : Answer) → Programmed (g.meaning w.below) start.block start.offset (take w.batch w.held) r (g.meaning v.below) → Goes (means w) at.block at.offset [] r (means v)
+    emptied r p =
+        let q = turn_first at.block at.offset w.batch w.state start asked in
+        rw (empty, same) (tells_first (sound_of sane w) at.block at.offset start q.0 q.1 none_accepted r (g.meaning v.below) (sane v.below) p v.held)
 
-  -- what a program asks, told by what it is not refused for
-  module _ (w : WriteBuffer F) (at : Place) (n : ℕ) (s : IsSound ok meaning w) (none : Accepts meaning w at n) where
-    pub asks_other : {X : Type 0} → Other ≡ turn w.state at.block at.offset w.batch → X
-    asks_other e = absurd (not_other (meaning w.below) w.batch w.state w.held s w.small w.full at.block at.offset n none e)
+    pub not_emptied : {e : Refusal} → Programmed (g.meaning w.below) start.block start.offset (take w.batch w.held) (Err e) (g.meaning v.below) → Goes (means w) at.block at.offset run (Err e) (means v)
+    not_emptied {e} p = chain_failed (means w) at.block at.offset [] run (means-sane sane w) none (zero-mod (means w).page) (means v) e (emptied (Err e) p)
 
-    pub asks_here : Here ≡ turn w.state at.block at.offset w.batch → IsNear w at
-    asks_here = tells_here (meaning w.below) w.batch w.state w.held s w.small w.full at.block at.offset n none
+    module _ (p : Programmed (g.meaning w.below) start.block start.offset (take w.batch w.held) (Ok tt) (g.meaning v.below)) where
+      pub emptied_accepts : program_refusal (means v) at.block at.offset (length run) ≡ None
+      emptied_accepts = nothing_rest (means w) (means v) at.block at.offset run (means-sane sane w) none (emptied (Ok tt) p)
 
-    -- what is left of a batch is whole words, and so are whole batches
-    pub room_of : (w.batch - at.offset % w.batch) % 4 ≡ 0
-    room_of = room_words (meaning w.below) w.batch w.state w.held s w.small w.full at.block at.offset n none w.some
+      pub emptied_then : {n : Meaning} {r : Answer} → Goes (means v) at.block at.offset run r n → Goes (means w) at.block at.offset run r n
+      emptied_then {n} {r} = nothing_then (means w) (means v) n at.block at.offset run r (means-sane sane w) none (emptied (Ok tt) p)
 
-    pub whole_of : (n - n % w.batch) % 4 ≡ 0
-    whole_of = whole_words (meaning w.below) w.batch w.state w.held s w.small w.full at.block at.offset n none
+-- a run that stays in its batch
+module _ {F : Type 0} {g : Ghosts F} (sane : (x : F) → Sane (g.meaning x)) (w : WriteBuffer F g) (at : Place) (run : List ℕ) (none : program_refusal (means w) at.block at.offset (length run) ≡ None) (near : IsNear w at)
+    (short : at.offset % w.batch + length run < w.batch) (bytes : 0 < length run) (put : List ℕ) (is : put ≡ run) where
+  abbrev into : ℕ
+  into = at.offset % w.batch
 
-  -- what a program is refused for, and a run that it is not
-  module _ (w : WriteBuffer F) (at : Place) (run : List ℕ) (s : IsSound ok meaning w) where
-    pub refused_by : (e : Refusal) → Some e ≡ program_refusal (means meaning w) at.block at.offset (length run)
-        → IsSound ok meaning w × Sane (means meaning w) × Programmed (means meaning w) at.block at.offset run (Err e) (means meaning w)
-    refused_by e h = (s, sane_of w s, Programmed.refused e (sym h) refl refl)
+  abbrev new : List ℕ
+  new = put_mid into (into + length run - into) w.held put
 
-    pub goes_by : None ≡ program_refusal (means meaning w) at.block at.offset (length run) → (r : Answer) (v : WriteBuffer F)
-        → (Accepts meaning w at (length run) → IsLaid ok meaning w at run r v)
-        → IsSound ok meaning v × Sane (means meaning v) × Programmed (means meaning w) at.block at.offset run r (means meaning v)
-    goes_by h r v f =
-        let q = f (sym h) in
-        (q.0, sane_of v q.0, Programmed.goes (sym h) q.1)
+  pub kept : (n : ℕ) → n ≡ used (take w.batch new) → (st : State) → st ≡ begun n at.block (at.offset - into)
+      → Holding (g.meaning w.below) st (take w.batch new) × Goes (means w) at.block at.offset run (Ok tt) (buffered (g.meaning w.below) st (take w.batch new))
+  kept =
+      tells_kept (sound_of sane w) at.block at.offset run none near bytes short new
+      (put_batch w.batch w.held into run (omega arith) (omega (arith, w.small, w.full)) put is)

@@ -1,8 +1,9 @@
 -- What was read of a block, with held bytes laid over it.
 use Rattle.std.proofs.Common.{◌≡◌, ℕ, ◌+◌, ◌-◌, ◌<◌, ◌≤◌, min, ◌⊎◌, List, length, get_or, take, drop, sym, refl, ap, ◌∙◌, inl, inr, ⊎_elim, arith, length-drop, length-take}
+use borrow.Rule.Slice.PartMut.{put_mid}
 use native.Mathlib.Nat.{min-le_left, min-le_right, min-eq_left, min-eq_right}
 use lib.ListN.{length-map}
-use Rattle.std.proofs.lemmas.List.{get_or-map, ext_get_or, get_or-take, get_or-drop}
+use Rattle.std.proofs.lemmas.List.{drop-drop, get_or-map, ext_get_or, get_or-take, get_or-drop}
 use Rattle.std.proofs.lemmas.Bool.{cases_lt}
 use Rattle.flash.specs.Cells.{Cell, byte, lost, cells, over}
 use Rattle.flash.specs.Refused.{part}
@@ -66,13 +67,15 @@ module _ (xs : List Cell) (o s : ℕ) (held out : List ℕ) (fits : o + length o
     covers_none z = covered out refl (λ i h lo hi. absurd (omega (arith, z, reached i h lo hi))) (λ i h k. refl)
 
     -- they do, in n bytes
-    pub covers_some : 0 < n → (new : List ℕ) → new ≡ over out to (take (from + n - from) (drop from held)) → cells new ≡ part (over xs s (cells held)) o (length out)
-    covers_some z new e =
+    pub covers_some : 0 < n → (put : List ℕ) → put ≡ take (from + n - from) (drop from held) → cells (put_mid to (to + n - to) out put) ≡ part (over xs s (cells held)) o (length out)
+    covers_some z put e =
         let mid = take n (drop from held) in
+        let new = put_mid to (to + n - to) out put in
         let y : from + n - from ≡ n = omega arith in
-        let is : new ≡ over out to mid = e ∙ ap (λ (x : ℕ). over out to (take x (drop from held))) y in
+        let x : to + n - to ≡ n = omega arith in
         let long : length mid ≡ n = simp (length-take, length-drop) (omega (arith, n_held)) in
         let fit : to + length mid ≤ length out = omega (arith, long, n_out, z) in
+        let is : new ≡ over out to mid = rw (x, e, y, drop-drop, long) refl in
         covered new (ap length is ∙ over_length out to mid fit)
         (λ i h lo hi.
         let in_n = reached i h lo hi in

@@ -1,9 +1,10 @@
 -- Examples, computed: the definitions say what they are meant to say.
 use Rattle.std.proofs.Common.{◌≡◌, true, false, [], ◌∷◌, Some, None, Ok, Err, refl}
 use Rattle.flash.specs.declared.refusal.Refusal.TheVariants.{NoPower, Outside, NotPages, BelowMark, OtherHeld}
-use Rattle.layers.specs.declared.buffer.State.TheVariants.{Empty, Filling}
-use Rattle.layers.specs.declared.buffer.Turn.TheVariants.{Other, First, Here}
-use Rattle.layers.specs.Batch.{used, up, suits, turn, caused, begun, begins, left}
+use Rattle.flash.specs.Extent.{used}
+use Rattle.layers.specs.declared.buffer.State.TheVariants.{Empty}
+use Rattle.layers.specs.Batch.{up, filling, suits, turn, begun, begins, left}
+use Rattle.layers.proofs.Refuse.{caused}
 
 used_of_blank : used (255 ∷ 255 ∷ []) ≡ 0
 used_of_blank = refl
@@ -20,16 +21,16 @@ where_it_fits : (suits 512 512 ≡ true) × (suits 4 4 ≡ true) × (suits 528 5
 where_it_fits = (refl, refl, refl, refl, refl, refl)
 
 -- while the batch at 512 of block 1 is held
-what_is_asked : (turn (Filling 1 512) 1 1020 512 ≡ Here) × (turn (Filling 1 512) 1 1024 512 ≡ First 1 512) × (turn (Filling 1 512) 2 0 512 ≡ Other) × (turn Empty 2 0 512 ≡ Here)
+what_is_asked : (turn (filling 1 512) 1 1020 512 ≡ Ok None) × (turn (filling 1 512) 1 1024 512 ≡ Ok (Some (record { block = 1; offset = 512 }))) × (turn (filling 1 512) 2 0 512 ≡ Err OtherHeld) × (turn Empty 2 0 512 ≡ Ok None)
 what_is_asked = (refl, refl, refl, refl)
 
 -- the first cause that applies
-what_is_refused : (caused 4096 512 4096 4 Here ≡ Some Outside) × (caused 4096 512 6 4 Other ≡ Some NotPages) × (caused 4096 512 508 4 Other ≡ Some BelowMark)
-    × (caused 4096 512 512 4 Other ≡ Some OtherHeld) × (caused 4096 512 512 4 Here ≡ None) × (caused 4096 512 4096 0 Here ≡ None)
+what_is_refused : (caused 4096 512 4096 4 (Ok None) ≡ Some Outside) × (caused 4096 512 6 4 (Err OtherHeld) ≡ Some NotPages) × (caused 4096 512 508 4 (Err OtherHeld) ≡ Some BelowMark)
+    × (caused 4096 512 512 4 (Err OtherHeld) ≡ Some OtherHeld) × (caused 4096 512 512 4 (Ok None) ≡ None) × (caused 4096 512 4096 0 (Ok None) ≡ None)
 what_is_refused = (refl, refl, refl, refl, refl, refl)
 
-what_is_held : (begun 0 1 512 ≡ Empty) × (begun 4 1 512 ≡ Filling 1 512) × (begins (Filling 1 512) 1 ≡ Some 512) × (begins (Filling 1 512) 2 ≡ None)
+what_is_held : (begun 0 1 512 ≡ Empty) × (begun 4 1 512 ≡ filling 1 512) × (begins (filling 1 512) 1 ≡ Some 512) × (begins (filling 1 512) 2 ≡ None)
 what_is_held = (refl, refl, refl, refl)
 
-what_an_erase_leaves : (left (Ok tt) (Filling 1 512) 1 ≡ Empty) × (left (Ok tt) (Filling 1 512) 2 ≡ Filling 1 512) × (left (Err NoPower) (Filling 1 512) 2 ≡ Empty)
+what_an_erase_leaves : (left (Ok tt) (filling 1 512) 1 ≡ Empty) × (left (Ok tt) (filling 1 512) 2 ≡ filling 1 512) × (left (Err NoPower) (filling 1 512) 2 ≡ Empty)
 what_an_erase_leaves = (refl, refl, refl)

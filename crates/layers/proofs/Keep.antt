@@ -1,5 +1,5 @@
 -- Bytes over into the batch of their place.
-use Rattle.std.proofs.Common.{◌≡◌, ℕ, ◌+◌, ◌-◌, ◌*◌, ◌/◌, ◌<◌, ◌≤◌, List, length, get_or, sym, refl, ap, ◌∙◌, subst, ⊎_elim, mul-div_cancel, arith}
+use Rattle.std.proofs.Common.{◌≡◌, ℕ, ◌+◌, ◌-◌, ◌*◌, ◌/◌, ◌<◌, ◌≤◌, eqb, List, length, get_or, sym, refl, ap, ◌∙◌, subst, ⊎_elim, mul-div_cancel, arith}
 use lib.ListN.{length-map}
 use Rattle.std.proofs.lemmas.List.{get_or-map, ext_get_or, take-append-drop}
 use Rattle.std.proofs.lemmas.Bool.{cases_lt}
@@ -10,17 +10,19 @@ use Rattle.flash.proofs.Batches.{end_le, next_batch}
 use Rattle.flash.proofs.Mixed.{unchanged}
 use Rattle.flash.proofs.Over.{here, over_length, over_below, over_in, over_above, over_front}
 use Rattle.flash.proofs.Settled.{nothing_held}
-use Rattle.layers.specs.Batch.{used}
+use Rattle.flash.specs.Extent.{used}
+use Rattle.layers.specs.Batch.{filling}
 use Rattle.layers.specs.Buffered.{shows, raised, marks, buffered, Fills, Holding, Bearing, Near}
 use Rattle.layers.specs.declared.buffer.State.{State}
 use Rattle.layers.specs.declared.buffer.State.TheVariants.{Empty, Filling}
-use Rattle.layers.proofs.Layer.{has_batch, size_whole, lies, held_long, held_below, held_in, held_above, held_none}
+use Rattle.layers.specs.Sanity.Rows.{has_batch, size_whole, lies, held_long, held_below, held_in, held_above, held_none}
 use Rattle.layers.proofs.Steps.{Mine, mine_shown, mine_mark}
-use Rattle.layers.proofs.Used.{used_le, used_from, used_last, used_below, used_above, up_le, up_start, start_is}
+use Rattle.flash.proofs.Extents.{extent_le, unused, used_last, used_below, used_above}
+use Rattle.layers.specs.Sanity.Rounding.{up_le, up_start, start_is}
 
 pub near_mine : (st : State) (g b o : ℕ) → Near st g b o → Mine st b
 near_mine Empty g b o q = tt
-near_mine (Filling c s) g b o q = q.0
+near_mine (Filling at) g b o q = q.0
 
 module _ (m : Meaning) (bear : Bearing m) (b o : ℕ) where
   abbrev pub start : ℕ
@@ -37,27 +39,27 @@ module _ (m : Meaning) (bear : Bearing m) (b o : ℕ) where
   module _ (held : List ℕ) (long : length held ≡ m.batch) where
     pub near_low : (st : State) → Holding m st held → Near st m.batch b o → marks m st held b ≤ o → m.mark b ≤ start
     near_low Empty h q top = omega (arith, up_start m.batch (has_batch m bear) (m.mark b) o top, up_le m.batch (has_batch m bear) (m.mark b))
-    near_low (Filling c s) f q top = omega (arith, ap m.mark q.0, f.above, q.1)
+    near_low (Filling at) f q top = omega (arith, ap m.mark q.0, f.above, q.1)
 
     near_used : (st : State) → Holding m st held → Near st m.batch b o → marks m st held b ≤ o → used held ≤ o - start
     near_used Empty h q top = omega (arith, h)
-    near_used (Filling c s) f q top =
-        omega (arith, (λ u. with_at (raised m) (q.0 u) (s + used held) b) ∙ here (raised m) b (s + used held), q.1)
+    near_used (Filling at) f q top =
+        omega (arith, (λ u. with_at (raised m) (q.0 u) (at.offset + used held) b) ∙ here (raised m) b (at.offset + used held), q.1)
 
     near_mark : (st : State) → Holding m st held → Near st m.batch b o → marks m st held b ≤ o → marks m st held b ≤ start + used held
     near_mark Empty h q top = omega (arith, up_start m.batch (has_batch m bear) (m.mark b) o top)
-    near_mark (Filling c s) f q top =
-        omega (arith, (λ u. with_at (raised m) (q.0 u) (s + used held) b) ∙ here (raised m) b (s + used held), q.1)
+    near_mark (Filling at) f q top =
+        omega (arith, (λ u. with_at (raised m) (q.0 u) (at.offset + used held) b) ∙ here (raised m) b (at.offset + used held), q.1)
 
     near_empty : (st : State) → Holding m st held → used held ≡ 0 → marks m st held b ≡ raised m b
     near_empty Empty h z = refl
-    near_empty (Filling c s) f z = absurd (omega (arith, f.some))
+    near_empty (Filling at) f z = absurd (omega (arith, f.some))
 
     near_shows : (st : State) → Holding m st held → Near st m.batch b o → b < m.blocks → start + m.batch ≤ m.size → m.mark b ≤ start
         → (i : ℕ) → shows m st held i ≡ with_at m.shown b (over (m.shown b) start (cells held)) i
     near_shows Empty h q there within low i =
         sym (unchanged m.shown b (over (m.shown b) start (cells held)) (held_none m bear b start held long there start_starts within low h) i)
-    near_shows (Filling c s) f q there within low i =
+    near_shows (Filling at) f q there within low i =
         λ u. with_at m.shown (q.0 u) (over (m.shown (q.0 u)) (q.1 u) (cells held)) i
 
   -- bytes over buffered the held ones
@@ -122,7 +124,7 @@ module _ (m : Meaning) (bear : Bearing m) (b o : ℕ) where
         (λ (z : 0 < used held).
         omega (
           arith,
-          used_above held' (used held - 1) (omega (arith, long', used_le held, long))
+          used_above held' (used held - 1) (omega (arith, long', extent_le (λ x. eqb x 255) held, long))
               (λ e. used_last held z (sym (over_below held (o - start) run fits_held (used held - 1) 0 (omega arith)) ∙ e)),
         ))
         (λ (z : used held ≤ 0). omega arith) (cases_lt 0 (used held))
@@ -130,7 +132,7 @@ module _ (m : Meaning) (bear : Bearing m) (b o : ℕ) where
     used_ends : used held ≤ o - start → used held' ≤ o - start + length run
     used_ends h =
         used_below held' (o - start + length run)
-        (λ i k l. over_above held (o - start) run fits_held i 0 k ∙ used_from held i (omega arith) (omega (arith, long, long')))
+        (λ i k l. over_above held (o - start) run fits_held i 0 k ∙ unused held i (omega arith) (omega (arith, long, long')))
 
     module _ (st : State) (hold : Holding m st held) (near : Near st m.batch b o) (top : marks m st held b ≤ o) where
       shown_was : (i : ℕ) → shows m st held i ≡ with_at m.shown b L i
@@ -191,11 +193,11 @@ module _ (m : Meaning) (bear : Bearing m) (b o : ℕ) where
             let q = near_empty held long st hold (omega (arith, grows, z')) in
             (stays_passed (omega arith) Empty tt z' (omega (arith, q, top)) (omega (arith, q)) held'' e, z)
 
-        pub keeps_some : (held'' : List ℕ) → held'' ≡ held' → 0 < used held'' → Passed (buffered m st held) b o run (buffered m (Filling b start) held'') × Holding m (Filling b start) held''
+        pub keeps_some : (held'' : List ℕ) → held'' ≡ held' → 0 < used held'' → Passed (buffered m st held) b o run (buffered m (filling b start) held'') × Holding m (filling b start) held''
         keeps_some held'' e z =
             let z' : 0 < used held' = omega (arith, z, ap used e) in
             let f : Fills m b start held' = record { there = there; starts = start_starts; within = within; above = low; some = z'; short = omega (arith, ended) } in
             let k = here (raised m) b (start + used held') in (
-              stays_passed (omega arith) (Filling b start) (refl, refl) f (omega (arith, k, ended, from)) (omega (arith, k, near_mark held long st hold near top, grows)) held'' e,
+              stays_passed (omega arith) (filling b start) (refl, refl) f (omega (arith, k, ended, from)) (omega (arith, k, near_mark held long st hold near top, grows)) held'' e,
               subst (λ (x : List ℕ). Fills m b start x) (sym e) f,
             )

@@ -2,17 +2,14 @@ pub mod Buffers
 pub mod Cover
 mod Examples
 pub mod Keep
-pub mod Layer
 pub mod Look
 pub mod Marks
 pub mod Moves
 pub mod Others
 pub mod Put
 pub mod Refuse
-pub mod Sanity
 pub mod Start
 pub mod Steps
 pub mod Told
 pub mod Turns
-pub mod Used
 pub mod Words

@@ -1,5 +1,5 @@
 -- What a read of a write buffer finds.
-use Rattle.std.proofs.Common.{◌≡◌, ℕ, zero, suc, ◌+◌, ◌-◌, ◌<◌, ◌≤◌, Bool, true, false, cond, not, List, [], ◌∷◌, length, get_or, take, Some, None, Ok, Err, Option, sym, refl, ap, ◌∙◌, subst, ⊎_elim, arith}
+use Rattle.std.proofs.Common.{◌≡◌, ℕ, zero, suc, ◌+◌, ◌<◌, ◌≤◌, Bool, true, false, cond, not, List, [], ◌∷◌, length, get_or, take, Some, None, Ok, Err, Option, sym, refl, ap, ◌∙◌, subst, ⊎_elim, arith}
 use lib.ListN.{length-map}
 use Rattle.std.proofs.lemmas.Bool.{cases_Bool, true≢false, false≢true}
 use Rattle.flash.specs.Cells.{Cell, byte, lost, cells, over}
@@ -15,8 +15,8 @@ use Rattle.layers.specs.Buffered.{shows, buffered, Fills, Holding, Bearing, Soun
 use Rattle.layers.specs.declared.buffer.State.{State}
 use Rattle.layers.specs.declared.buffer.State.TheVariants.{Empty, Filling}
 use Rattle.layers.proofs.Cover.{part_long, part_at}
-use Rattle.layers.proofs.Layer.{byte_lost, held_long, lost_under, lost_over}
-use Rattle.layers.proofs.Moves.{full_long}
+use Rattle.layers.specs.Sanity.{batch_long}
+use Rattle.layers.specs.Sanity.Rows.{byte_lost, held_long, lost_under, lost_over}
 use Rattle.layers.proofs.Refuse.{same_place}
 use Rattle.layers.proofs.Turns.{begins_at, none_shown}
 
@@ -38,20 +38,20 @@ module _ (m : Meaning) (bear : Bearing m) (held : List ℕ) (long : length held 
 
   shown_long : (st : State) → Holding m st held → length (shows m st held b) ≡ m.size
   shown_long Empty h = bear.sane.shown_length b there
-  shown_long (Filling c s) f =
-      by_place (λ v. length (cond v (over (m.shown c) s (cells held)) (m.shown b)) ≡ m.size) b c
-      (λ _. held_long m bear c s held long f.there f.starts f.within f.above) (λ _. bear.sane.shown_length b there)
+  shown_long (Filling at) f =
+      by_place (λ v. length (cond v (over (m.shown at.block) at.offset (cells held)) (m.shown b)) ≡ m.size) b at.block
+      (λ _. held_long m bear at.block at.offset held long f.there f.starts f.within f.above) (λ _. bear.sane.shown_length b there)
 
   -- a place is lost in both or in none
   lost_both : (st : State) → Holding m st held → (i : ℕ) → i < m.size → (get_or (shows m st held b) i lost ≡ lost → get_or (m.shown b) i lost ≡ lost) × (get_or (m.shown b) i lost ≡ lost → get_or (shows m st held b) i lost ≡ lost)
   lost_both Empty h i l = ((λ e. e), (λ e. e))
-  lost_both (Filling c s) f i l =
-      let row = over (m.shown c) s (cells held) in
-      by_place (λ v. (get_or (cond v row (m.shown b)) i lost ≡ lost → get_or (m.shown b) i lost ≡ lost) × (get_or (m.shown b) i lost ≡ lost → get_or (cond v row (m.shown b)) i lost ≡ lost)) b c
+  lost_both (Filling at) f i l =
+      let row = over (m.shown at.block) at.offset (cells held) in
+      by_place (λ v. (get_or (cond v row (m.shown b)) i lost ≡ lost → get_or (m.shown b) i lost ≡ lost) × (get_or (m.shown b) i lost ≡ lost → get_or (cond v row (m.shown b)) i lost ≡ lost)) b at.block
       (λ q.
       subst (λ (x : ℕ). (get_or row i lost ≡ lost → get_or (m.shown x) i lost ≡ lost) × (get_or (m.shown x) i lost ≡ lost → get_or row i lost ≡ lost)) (sym q) (
-        lost_under m bear c s held long f.there f.starts f.within f.above i l,
-        lost_over m bear c s held long f.there f.starts f.within f.above i l,
+        lost_under m bear at.block at.offset held long f.there f.starts f.within f.above i l,
+        lost_over m bear at.block at.offset held long f.there f.starts f.within f.above i l,
       ))
       (λ _. ((λ e. e), (λ e. e)))
 
@@ -96,12 +96,9 @@ none_place m b o n h = go (place_refusal m b o n) refl
     go (Some e) p = absurd (not_some (sym (read_by_place m b o n e p) ∙ h))
     go None p = refl
 
-module _ {ok : Type 0} (m : Meaning) (batch : ℕ) (st : State) (held : List ℕ) (s : Sound ok m batch st held) (small : batch ≤ 512) (full : length held ≡ 512) (b o : ℕ) (old : List ℕ) where
-  long : length (take batch held) ≡ m.batch
-  long = full_long m.batch batch held s.same small full
-
+module _ {m : Meaning} {batch : ℕ} {st : State} {held : List ℕ} (s : Sound m batch st held) (b o : ℕ) (old : List ℕ) where
   same : read_refusal (buffered m st (take batch held)) b o (length old) ≡ read_refusal m b o (length old)
-  same = same_read m s.bears st (take batch held) long s.holding b o (length old)
+  same = same_read m s.bears st (take batch held) (batch_long s) s.holding b o (length old)
 
   pub looks_err : (e : Refusal) (new : List ℕ) → Fetched m b o old (Err e) new → Fetched (buffered m st (take batch held)) b o old (Err e) new
   looks_err e new (Fetched.refused d h q k) = Fetched.refused d (same ∙ h) q k
@@ -132,13 +129,5 @@ module _ {ok : Type 0} (m : Meaning) (batch : ℕ) (st : State) (held : List ℕ
       let at_b : shows m st (take batch held) b ≡ over (m.shown b) t (cells (take batch held)) =
       ap (λ (x : State). shows m x (take batch held) b) e ∙ here m.shown b _ in
       Fetched.done (same ∙ g.0) refl
-      (cover (m.shown b) (omega (arith, mid_long, X_long, p.fits)) (omega (arith, long, X_long, fill.within)) (g.1 ∙ ap (part (m.shown b) o) (sym mid_long))
+      (cover (m.shown b) (omega (arith, mid_long, X_long, p.fits)) (omega (arith, batch_long s, X_long, fill.within)) (g.1 ∙ ap (part (m.shown b) o) (sym mid_long))
       ∙ (ap (part (over (m.shown b) t (cells (take batch held))) o) mid_long ∙ ap (λ (x : List Cell). part x o (length old)) (sym at_b)))
-
--- of a batch that an array begins with
-pub covers_first : (g : ℕ) (held : List ℕ) (t o : ℕ) (mid new : List ℕ)
-    → ((xs : List Cell) → o + length mid ≤ length xs → t + length (take (g - 0) held) ≤ length xs → cells mid ≡ part xs o (length mid) → cells new ≡ part (over xs t (cells (take (g - 0) held))) o (length mid))
-    → (xs : List Cell) → o + length mid ≤ length xs → t + length (take g held) ≤ length xs → cells mid ≡ part xs o (length mid) → cells new ≡ part (over xs t (cells (take g held))) o (length mid)
-covers_first g held t o mid new f =
-    subst (λ (k : ℕ). (xs : List Cell) → o + length mid ≤ length xs → t + length (take k held) ≤ length xs → cells mid ≡ part xs o (length mid) → cells new ≡ part (over xs t (cells (take k held))) o (length mid))
-    (let z : g - 0 ≡ g = omega arith in z) f

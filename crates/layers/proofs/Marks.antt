@@ -1,32 +1,31 @@
 -- The mark of a block of a write buffer.
-use Rattle.std.proofs.Common.{◌≡◌, ℕ, ◌+◌, ◌-◌, ◌*◌, ◌/◌, ◌^◌, ◌<◌, ◌≤◌, min, List, take, Some, None, sym, ap, ◌∙◌, subst, arith}
-use native.Mathlib.Nat.{min-eq_left}
+use Rattle.std.proofs.Common.{◌≡◌, ℕ, ◌+◌, ◌^◌, ◌<◌, List, take, Some, None, sym, ap, ◌∙◌, arith}
+use Rattle.std.specs.Int.{next_multiple_of}
+use Rattle.flash.specs.Extent.{used}
 use Rattle.flash.specs.Meaning.{Meaning}
 use Rattle.flash.proofs.Over.{here}
-use Rattle.layers.specs.Batch.{used, up, begins}
-use Rattle.layers.specs.Buffered.{raised, marks, buffered, Fills, Holding, Sound}
+use Rattle.layers.specs.Batch.{up, begins}
+use Rattle.layers.specs.Buffered.{raised, marks, buffered, Sound}
+use Rattle.layers.specs.Sanity.Rounding.{up_next}
+use Rattle.layers.specs.Sanity.Rows.{has_batch, raised_within}
 use Rattle.layers.specs.declared.buffer.State.{State}
-use Rattle.layers.proofs.Put.{used_first}
 use Rattle.layers.proofs.Turns.{begins_at, none_mark}
 
-module _ {ok : Type 0} (m : Meaning) (batch : ℕ) (st : State) (held : List ℕ) (s : Sound ok m batch st held) (b : ℕ) where
+module _ {m : Meaning} {batch : ℕ} {st : State} {held : List ℕ} (s : Sound m batch st held) (b : ℕ) where
+  next_is : (mark : ℕ) → mark ≡ m.mark b → next_multiple_of mark batch ≡ raised m b
+  next_is mark e = ap (next_multiple_of mark) (sym s.same) ∙ (up_next m.batch (has_batch m s.bears) mark ∙ ap (up m.batch) e)
+
   -- of a block without a held batch it is that below, rounded up
-  pub mark_raised : None ≡ begins st b → b < m.blocks → (mark : ℕ) → mark ≡ m.mark b → (r : ℕ) → (mark < 2 ^ 32 → r ≡ (mark + (batch - 1)) / batch * batch) → r ≡ (buffered m st (take batch held)).mark b
-  unfolding buffered up
-  mark_raised h there mark e r f =
-      f (omega (arith, e, s.bears.sane.mark_within b there, s.bears.sane.size_fits))
-      ∙ (ap (λ (x : ℕ). (x + (batch - 1)) / batch * batch) e
-      ∙ (ap (λ (g : ℕ). (m.mark b + (g - 1)) / g * g) (sym s.same) ∙ sym (none_mark m (take batch held) b st h)))
+  pub mark_raised : None ≡ begins st b → (mark : ℕ) → mark ≡ m.mark b → next_multiple_of mark batch ≡ (buffered m st (take batch held)).mark b
+  unfolding buffered
+  mark_raised h mark e = next_is mark e ∙ sym (none_mark m (take batch held) b st h)
+
+  pub raised_fits : b < m.blocks → (mark : ℕ) → mark ≡ m.mark b → next_multiple_of mark batch < 2 ^ 64
+  raised_fits there mark e = omega (arith, next_is mark e, raised_within m s.bears b there, s.bears.sane.size_fits)
 
   -- of the block with the held batch it is where its bytes end
-  pub mark_held : (t : ℕ) → Some t ≡ begins st b → (n : ℕ) → n ≡ used (take (batch - 0) held) → (r : ℕ) → r ≡ min (t + n) (2 ^ 64 - 1) → r ≡ (buffered m st (take batch held)).mark b
+  pub mark_held : (t : ℕ) → Some t ≡ begins st b → t + used (take batch held) ≡ (buffered m st (take batch held)).mark b
   unfolding buffered
-  mark_held t h n is-n r is =
+  mark_held t h =
       let e = begins_at st b t h in
-      let f : Fills m b t (take batch held) = subst (λ (x : State). Holding m x (take batch held)) e s.holding in
-      let k : n ≡ used (take batch held) = is-n ∙ used_first batch held in
-      let low : t + n ≤ 2 ^ 64 - 1 = omega (arith, k, f.short, f.within, s.bears.sane.size_fits) in
-      is
-      ∙ (min-eq_left low
-      ∙ (ap (λ (x : ℕ). t + x) k
-      ∙ sym (ap (λ (x : State). marks m x (take batch held) b) e ∙ here (raised m) b (t + used (take batch held)))))
+      sym (ap (λ (x : State). marks m x (take batch held) b) e ∙ here (raised m) b (t + used (take batch held)))

@@ -1,7 +1,7 @@
 -- The steps of a program, as the calls of a write buffer make them.
 use Rattle.std.proofs.Common.{◌≡◌, ℕ, ◌+◌, ◌-◌, ◌*◌, ◌/◌, ◌%◌, ◌<◌, ◌≤◌, List, [], length, take, replicate, None, sym, refl, ap, ◌∙◌, subst, ⊎_elim, div-add-mod', arith}
 use native.Mathlib.Nat.{mod_self}
-use Rattle.std.proofs.lemmas.List.{take-append-drop, take-replicate, length-take-le, nil_from_length}
+use Rattle.std.proofs.lemmas.List.{take-append-drop, take-replicate, nil_from_length}
 use Rattle.std.proofs.lemmas.Bool.{cases_lt}
 use Rattle.flash.specs.Cells.{Cell, cells, over}
 use Rattle.flash.specs.Meaning.{Meaning, Sane, with_at, mixed, shown_at, settled_at}
@@ -12,18 +12,16 @@ use Rattle.flash.proofs.Mixed.{unchanged, over_none}
 use Rattle.flash.proofs.Over.{here, over_front}
 use Rattle.flash.proofs.Refusals.{Accepted, accepted}
 use Rattle.flash.proofs.Settled.{nothing_held}
-use Rattle.layers.specs.Batch.{used}
-use Rattle.layers.specs.Buffered.{shows, marks, buffered, Fills, Holding, Bearing, Sound, Near}
+use Rattle.flash.specs.Extent.{used}
+use Rattle.layers.specs.Batch.{filling}
+use Rattle.layers.specs.Buffered.{shows, marks, buffered, Fills, Holding, Bearing, Near}
 use Rattle.layers.specs.declared.buffer.State.{State}
 use Rattle.layers.specs.declared.buffer.State.TheVariants.{Empty, Filling}
 use Rattle.layers.proofs.Keep.{near_mine, start, start_starts, start_within, near_low, long', lay_shown, keeps_none, keeps_some}
-use Rattle.layers.proofs.Layer.{has_batch, words_at, lies}
+use Rattle.layers.specs.Sanity.Rows.{has_batch, words_at, lies}
 use Rattle.layers.proofs.Start.{used_blank}
 use Rattle.layers.proofs.Steps.{last_held, accepted_mine, below_accepted, sent}
-use Rattle.layers.proofs.Used.{next_is}
-
-pub full_long : (g batch : ℕ) (held : List ℕ) → g ≡ batch → batch ≤ 512 → length held ≡ 512 → length (take batch held) ≡ g
-full_long g batch held e small full = length-take-le batch held (omega (arith, full)) ∙ sym e
+use Rattle.layers.specs.Sanity.Rounding.{next_is}
 
 nothing_passes : (m : Meaning) (st : State) (held : List ℕ) (b o : ℕ) → (buffered m st held).mark b ≤ o
     → take (o / m.batch * m.batch) ((buffered m st held).shown b) ≡ take (o / m.batch * m.batch) (m.settled b) → Passed (buffered m st held) b o [] (buffered m st held)
@@ -59,12 +57,12 @@ module _ (m : Meaning) (bear : Bearing m) (st : State) (held : List ℕ) (long :
     where
       agree : (st : State) → Holding m st held → Near st m.batch b o → b < m.blocks → take (o / m.batch * m.batch) (shows m st held b) ≡ take (o / m.batch * m.batch) (m.settled b)
       agree Empty h q there = ap (take (o / m.batch * m.batch)) (nothing_held m bear.sane bear.whole b there)
-      agree (Filling c s) f q there =
-          let e : shows m (Filling c s) held b ≡ over (m.shown c) s (cells held) = ap (shows m (Filling c s) held) (sym q.0) ∙ here m.shown c (over (m.shown c) s (cells held)) in
+      agree (Filling at) f q there =
+          let e : shows m (Filling at) held b ≡ over (m.shown at.block) at.offset (cells held) = ap (shows m (Filling at) held) (sym q.0) ∙ here m.shown at.block (over (m.shown at.block) at.offset (cells held)) in
           ap (take (o / m.batch * m.batch)) e
-          ∙ (ap (λ (x : ℕ). take x (over (m.shown c) s (cells held))) (sym q.1)
-          ∙ (over_front (m.shown c) s (cells held) (lies m bear c s held long f.there f.starts f.within f.above) s (omega arith)
-          ∙ (ap (λ (x : ℕ). take x (m.shown c)) q.1 ∙ ap (take (o / m.batch * m.batch)) (ap m.shown q.0 ∙ nothing_held m bear.sane bear.whole b there))))
+          ∙ (ap (λ (x : ℕ). take x (over (m.shown at.block) at.offset (cells held))) (sym q.1)
+          ∙ (over_front (m.shown at.block) at.offset (cells held) (lies m bear at.block at.offset held long f.there f.starts f.within f.above) at.offset (omega arith)
+          ∙ (ap (λ (x : ℕ). take x (m.shown at.block)) q.1 ∙ ap (take (o / m.batch * m.batch)) (ap m.shown q.0 ∙ nothing_held m bear.sane bear.whole b there))))
 
   module _ (run : List ℕ) (none : program_refusal (buffered m st held) b o (length run) ≡ None) where
     facts : Accepted (buffered m st held) b o (length run)
@@ -114,7 +112,7 @@ module _ (m : Meaning) (bear : Bearing m) (st : State) (held : List ℕ) (long :
       kept_none h new e = keeps_none m bear b o held run long there within low inside st hold near top (short h) new (held_is new e)
 
       pub kept_some : o % m.batch + length run < m.batch → (new : List ℕ) → new ≡ over held (o % m.batch) run → 0 < used new
-          → Passed (buffered m st held) b o run (buffered m (Filling b (start m bear b o)) new) × Holding m (Filling b (start m bear b o)) new
+          → Passed (buffered m st held) b o run (buffered m (filling b (start m bear b o)) new) × Holding m (filling b (start m bear b o)) new
       kept_some h new e = keeps_some m bear b o held run long there within low inside st hold near top (short h) new (held_is new e)
 
       pub completes : o % m.batch + length run ≡ m.batch → (new : List ℕ) → new ≡ over held (o % m.batch) run
@@ -151,14 +149,14 @@ module _ (m : Meaning) (bear : Bearing m) (st : State) (held : List ℕ) (long :
         (below_accepted m bear held long b st o (length run) facts o (length run) s w fits (omega (arith, near_low m bear b o held long st hold near top, end_le m.batch (has_batch m bear) o))) p
 
 module _ (m : Meaning) (bear : Bearing m) (held : List ℕ) (long : length held ≡ m.batch) (b o : ℕ) where
-  differs : (c s : ℕ) → Fills m c s held → c ≡ b → shown_at (buffered m (Filling c s) held) b (s + used held - 1) ≡ settled_at (buffered m (Filling c s) held) b (s + used held - 1) → ⊥
+  differs : (c s : ℕ) → Fills m c s held → c ≡ b → shown_at (buffered m (filling c s) held) b (s + used held - 1) ≡ settled_at (buffered m (filling c s) held) b (s + used held - 1) → ⊥
   unfolding buffered
   differs c s f q e =
       let l = last_held m bear held long b c s f in
-      l.0 (ap (λ (x : ℕ). shown_at (buffered m (Filling c s) held) x (s + used held - 1)) q
+      l.0 (ap (λ (x : ℕ). shown_at (buffered m (filling c s) held) x (s + used held - 1)) q
       ∙ (e ∙ bear.sane.settled_blank b (s + used held - 1) (rw (sym q) f.there) (omega (arith, ap m.mark q, f.above, f.some)) l.1))
 
-  held_concerns : (c s : ℕ) → Fills m c s held → c ≡ b → (k : ℕ) → k * m.batch < s + length held → s < k * m.batch + m.batch → Concerned (buffered m (Filling c s) held) b o 0 k
+  held_concerns : (c s : ℕ) → Fills m c s held → c ≡ b → (k : ℕ) → k * m.batch < s + length held → s < k * m.batch + m.batch → Concerned (buffered m (filling c s) held) b o 0 k
   unfolding buffered
   held_concerns c s f q k lo hi =
       let below : k * m.batch ≤ s / m.batch * m.batch =
@@ -170,23 +168,23 @@ module _ (m : Meaning) (bear : Bearing m) (held : List ℕ) (long : length held 
       Concerned.had (s + used held - 1) (omega (arith, below, f.starts, f.some)) (omega (arith, above, f.starts, f.some, f.short)) (differs c s f q)
 
   -- the batch of an earlier place goes down
-  pub goes_first : (c s : ℕ) → Fills m c s held → program_refusal (buffered m (Filling c s) held) b o 0 ≡ None → s + m.batch ≤ o
-      → (r : Answer) (n : Meaning) (rest : List ℕ) → Sane n → Programmed m c s held r n → Goes (buffered m (Filling c s) held) b o [] r (buffered n Empty rest)
+  pub goes_first : (c s : ℕ) → Fills m c s held → program_refusal (buffered m (filling c s) held) b o 0 ≡ None → s + m.batch ≤ o
+      → (r : Answer) (n : Meaning) (rest : List ℕ) → Sane n → Programmed m c s held r n → Goes (buffered m (filling c s) held) b o [] r (buffered n Empty rest)
   unfolding buffered
   goes_first c s f none far r n rest sane p =
-      let a = accepted (buffered m (Filling c s) held) b o 0 none in
-      let q : c ≡ b = accepted_mine m bear held long b (Filling c s) f o 0 a in
+      let a = accepted (buffered m (filling c s) held) b o 0 none in
+      let q : c ≡ b = accepted_mine m bear held long b (filling c s) f o 0 a in
       let fit : o + 0 ≤ m.size = a.fits in
       let ends : (s + length held) / m.batch * m.batch ≡ s + length held = rw long (next_is m.batch (has_batch m bear) s f.starts) in
       let whole : length held % m.batch ≡ 0 = rw long (mod_self m.batch) in
       let lies_s : s + length held ≤ m.size = omega (arith, long, f.within) in
-      let same : over (m.shown b) s (cells held) ≡ over (shows m (Filling c s) held b) o [] =
-      sym (over_none (shows m (Filling c s) held b) o
+      let same : over (m.shown b) s (cells held) ≡ over (shows m (filling c s) held b) o [] =
+      sym (over_none (shows m (filling c s) held b) o
       ∙ ((λ u. with_at m.shown (q u) (over (m.shown (q u)) s (cells held)) b) ∙ here m.shown b (over (m.shown b) s (cells held)))) in
-      sent m bear held long b (Filling c s) f o [] q a.there fit a.above s held ends (omega (arith, long, far)) lies_s same
+      sent m bear held long b (filling c s) f o [] q a.there fit a.above s held ends (omega (arith, long, far)) lies_s same
       (λ k z lo hi. held_concerns c s f q k lo hi)
       r n rest sane
-      (below_accepted m bear held long b (Filling c s) o 0 a s (length held) f.starts whole lies_s (omega (arith, ap m.mark q, f.above)))
+      (below_accepted m bear held long b (filling c s) o 0 a s (length held) f.starts whole lies_s (omega (arith, ap m.mark q, f.above)))
       (subst (λ (x : ℕ). Programmed m x s held r n) q p)
 
 shape_programmed : (m : Meaning) (b o : ℕ) (run : List ℕ) (k : ℕ) → ((programmed m b o run k).page ≡ m.page) × ((programmed m b o run k).batch ≡ m.batch)
@@ -198,24 +196,15 @@ unfolding broken
 shape_broken m b left k = (refl, refl)
 
 -- a flash that took a run can still bear a write buffer
-pub bears_after : (m n : Meaning) (b o : ℕ) (run : List ℕ) (r : Answer) → Bearing m → Sane n → Programmed m b o run r n → Bearing n × (n.batch ≡ m.batch)
-bears_after m n b o run r bear sane p = go (shape p)
-  where
-    shape : Programmed m b o run r n → (n.page ≡ m.page) × (n.batch ≡ m.batch)
-    shape (Programmed.refused e h _ q) = (ap (λ (x : Meaning). x.page) q, ap (λ (x : Meaning). x.batch) q)
-    shape (Programmed.goes h (Goes.done e q)) =
-        let u = shape_programmed m b o run q.mark in
-        (ap (λ (x : Meaning). x.page) q.is ∙ u.0, ap (λ (x : Meaning). x.batch) q.is ∙ u.1)
-    shape (Programmed.goes h (Goes.failed e f)) =
-        let u = shape_broken m b f.left f.marks in
-        (ap (λ (x : Meaning). x.page) f.is ∙ u.0, ap (λ (x : Meaning). x.batch) f.is ∙ u.1)
+pub shape_after : (m n : Meaning) (b o : ℕ) (run : List ℕ) (r : Answer) → Programmed m b o run r n → (n.page ≡ m.page) × (n.batch ≡ m.batch)
+shape_after m n b o run r (Programmed.refused e h _ q) = (ap (λ (x : Meaning). x.page) q, ap (λ (x : Meaning). x.batch) q)
+shape_after m n b o run r (Programmed.goes h (Goes.done e q)) =
+    let u = shape_programmed m b o run q.mark in
+    (ap (λ (x : Meaning). x.page) q.is ∙ u.0, ap (λ (x : Meaning). x.batch) q.is ∙ u.1)
+shape_after m n b o run r (Programmed.goes h (Goes.failed e f)) =
+    let u = shape_broken m b f.left f.marks in
+    (ap (λ (x : Meaning). x.page) f.is ∙ u.0, ap (λ (x : Meaning). x.batch) f.is ∙ u.1)
 
-    go : (n.page ≡ m.page) × (n.batch ≡ m.batch) → Bearing n × (n.batch ≡ m.batch)
-    go e = (
-      record { sane = sane; whole = e.0 ∙ (bear.whole ∙ sym e.1); words = rw e.1 bear.words; small = rw e.1 bear.small },
-      e.1,
-    )
-
-pub empty_sound : (ok : Type 0) (n : Meaning) (batch : ℕ) {held : List ℕ} → ok → Bearing n → n.batch ≡ batch → batch ≤ 512 → held ≡ replicate 512 255 → Sound ok n batch Empty held
-empty_sound ok n batch k bear e small h = record
-    { below = k; bears = bear; same = e; holding = rw (h, take-replicate {X = ℕ} batch 512 255 small) (used_blank batch) }
+-- nothing is held of an array that is all 0xFF
+pub blank_holds : (batch : ℕ) (held : List ℕ) → batch ≤ 512 → held ≡ replicate 512 255 → used (take batch held) ≡ 0
+blank_holds batch held small h = rw (h, take-replicate {X = ℕ} batch 512 255 small) (used_blank batch)

@@ -1,16 +1,14 @@
 -- Where a write buffer fits, and a new one.
-use Rattle.std.proofs.Common.{◌≡◌, ℕ, ◌%◌, ◌<◌, ◌≤◌, Bool, true, false, cond, eqb, leb, List, replicate, sym, refl, ◌∙◌, arith}
-use lib.ListN.{length-replicate}
-use Rattle.std.proofs.lemmas.List.{take-replicate, get_or-replicate}
+use Rattle.std.proofs.Common.{◌≡◌, ℕ, ◌%◌, ◌<◌, ◌≤◌, Bool, true, false, cond, eqb, leb, List, replicate, sym, refl, ◌∙◌}
 use Rattle.std.proofs.lemmas.Bool.{false≢true, eqb-true, leb-true, ltb-true}
-use Rattle.flash.specs.Meaning.{Meaning, Sane}
+use Rattle.flash.specs.Meaning.{Meaning}
 use Rattle.flash.specs.Rules.{Shaped}
 use Rattle.flash.specs.declared.place.Shape.{Shape}
-use Rattle.layers.specs.Batch.{used, suits}
-use Rattle.layers.specs.Buffered.{buffered, Sound}
+use Rattle.flash.specs.Extent.{used}
+use Rattle.layers.specs.Batch.{suits}
+use Rattle.layers.specs.Buffered.{buffered}
 use Rattle.layers.specs.declared.buffer.State.{State}
-use Rattle.layers.specs.declared.buffer.State.TheVariants.{Empty}
-use Rattle.layers.proofs.Used.{used_below}
+use Rattle.flash.proofs.Extents.{extent_empty}
 
 both : (t u : Bool) → cond t u false ≡ true → (t ≡ true) × (u ≡ true)
 both true u h = (refl, h)
@@ -24,9 +22,7 @@ suits_is p g h =
     (eqb-true p g a.0, eqb-true (g % 4) 0 b.0, leb-true g 512 d.0, ltb-true 0 g d.1)
 
 pub used_blank : (n : ℕ) → used (replicate n 255) ≡ 0
-used_blank n =
-    let h : used (replicate n 255) ≤ 0 = used_below (replicate n 255) 0 (λ i _ l. get_or-replicate n i 255 0 (omega (arith, length-replicate {A = ℕ} n 255))) in
-    omega arith
+used_blank n = extent_empty (λ x. eqb x 255) n 255 refl
 
 -- what is known of a flash below by its shape
 module _ (m : Meaning) (shape : Shape) (shaped : Shaped shape m) where
@@ -35,21 +31,6 @@ module _ (m : Meaning) (shape : Shape) (shaped : Shaped shape m) where
 
   pub suits_if : (t : Bool) → t ≡ suits shape.page shape.batch → suits m.page m.batch ≡ t
   suits_if t h = sym (h ∙ suits_same)
-
-  pub starts : (ok : Type 0) {held : List ℕ} → ok → Sane m → true ≡ suits shape.page shape.batch → held ≡ replicate 512 255 → Sound ok m shape.batch Empty held
-  starts ok k s h e =
-      let q = suits_is shape.page shape.batch h in
-      record {
-        below = k;
-        bears = record {
-          sane = s;
-          whole = sym shaped.2 ∙ (q.0 ∙ shaped.3);
-          words = rw (← shaped.3) q.1;
-          small = rw (← shaped.3) q.2;
-        };
-        same = sym shaped.3;
-        holding = rw (e, take-replicate {X = ℕ} shape.batch 512 255 q.2) (used_blank shape.batch);
-      }
 
 pub words_shaped : (m : Meaning) (st : State) (held : List ℕ) (below shape : Shape) → Shaped below m → (shape.blocks ≡ below.blocks) × (shape.size ≡ below.size) × (shape.page ≡ 4) × (shape.batch ≡ below.batch)
     → Shaped shape (buffered m st held)

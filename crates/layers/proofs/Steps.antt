@@ -13,39 +13,41 @@ use Rattle.flash.proofs.Mixed.{again}
 use Rattle.flash.proofs.Over.{by_place, here, elsewhere, over_below, over_back}
 use Rattle.flash.proofs.Refusals.{Accepted, none_other}
 use Rattle.flash.proofs.Settled.{nothing_held}
-use Rattle.layers.specs.Batch.{used, up}
+use Rattle.flash.specs.Extent.{used}
+use Rattle.layers.specs.Batch.{filling, up}
 use Rattle.layers.specs.Buffered.{shows, raised, marks, buffered, Fills, Holding, Bearing}
 use Rattle.layers.specs.declared.buffer.State.{State}
 use Rattle.layers.specs.declared.buffer.State.TheVariants.{Empty, Filling}
-use Rattle.layers.proofs.Layer.{has_batch, held_long, held_in}
-use Rattle.layers.proofs.Used.{used_last, up_le, up_mono, up_at}
+use Rattle.layers.specs.Sanity.Rows.{has_batch, held_long, held_in}
+use Rattle.flash.proofs.Extents.{used_last}
+use Rattle.layers.specs.Sanity.Rounding.{up_le, up_mono, up_at}
 
 -- the batch that fills, if any, is of the block b
 abbrev pub Mine : State → ℕ → Type 0
 Mine Empty b = Unit {0}
-Mine (Filling c s) b = c ≡ b
+Mine (Filling at) b = at.block ≡ b
 
 -- then no other block has bytes held
 pub mine_held : (m : Meaning) (bear : Bearing m) (held : List ℕ) (b : ℕ) (st : State) → Mine st b → other_held (buffered m st held) b ≡ false
 unfolding buffered
 mine_held m bear held b Empty q = none_other (buffered m Empty held) b (λ c h _. nothing_held m bear.sane bear.whole c h)
-mine_held m bear held b (Filling c s) q =
-    none_other (buffered m (Filling c s) held) b
-    (λ d h ne. elsewhere m.shown c (over (m.shown c) s (cells held)) d (λ e. ne (e ∙ q)) ∙ nothing_held m bear.sane bear.whole d h)
+mine_held m bear held b (Filling at) q =
+    none_other (buffered m (Filling at) held) b
+    (λ d h ne. elsewhere m.shown at.block (over (m.shown at.block) at.offset (cells held)) d (λ e. ne (e ∙ q)) ∙ nothing_held m bear.sane bear.whole d h)
 
 module _ (m : Meaning) (bear : Bearing m) (held : List ℕ) (long : length held ≡ m.batch) (b : ℕ) where
   pub mine_shown : (st : State) → Mine st b → (y : List Cell) (i : ℕ) → with_at (shows m st held) b y i ≡ with_at m.shown b y i
   mine_shown Empty q y i = refl
-  mine_shown (Filling c s) q y i =
-      (λ t. with_at (with_at m.shown (q t) (over (m.shown (q t)) s (cells held))) b y i) ∙ again m.shown b (over (m.shown b) s (cells held)) y i
+  mine_shown (Filling at) q y i =
+      (λ t. with_at (with_at m.shown (q t) (over (m.shown (q t)) at.offset (cells held))) b y i) ∙ again m.shown b (over (m.shown b) at.offset (cells held)) y i
 
   pub mine_mark : (st : State) → Mine st b → (k i : ℕ) → with_at (marks m st held) b k i ≡ with_at (raised m) b k i
   mine_mark Empty q k i = refl
-  mine_mark (Filling c s) q k i =
-      (λ t. with_at (with_at (raised m) (q t) (s + used held)) b k i) ∙ again (raised m) b (s + used held) k i
+  mine_mark (Filling at) q k i =
+      (λ t. with_at (with_at (raised m) (q t) (at.offset + used held)) b k i) ∙ again (raised m) b (at.offset + used held) k i
 
   -- a byte that is held
-  pub last_held : (c s : ℕ) → Fills m c s held → (shown_at (buffered m (Filling c s) held) c (s + used held - 1) ≡ byte 255 → ⊥) × (s + used held - 1 < m.size)
+  pub last_held : (c s : ℕ) → Fills m c s held → (shown_at (buffered m (filling c s) held) c (s + used held - 1) ≡ byte 255 → ⊥) × (s + used held - 1 < m.size)
   unfolding buffered
   last_held c s f =
       let p = s + used held - 1 in
@@ -56,21 +58,21 @@ module _ (m : Meaning) (bear : Bearing m) (held : List ℕ) (long : length held 
       ∙ ap (λ (n : ℕ). byte (get_or held n 0)) z) in
       ((λ e. used_last held f.some (let q : byte (get_or held (used held - 1) 0) ≡ byte 255 = sym v ∙ e in cc)), omega (arith, f.short, f.within))
 
-  last_held_shown : (c s : ℕ) → Fills m c s held → get_or (shows m (Filling c s) held c) (s + used held - 1) lost ≡ byte 255 → ⊥
+  last_held_shown : (c s : ℕ) → Fills m c s held → get_or (shows m (filling c s) held c) (s + used held - 1) lost ≡ byte 255 → ⊥
   unfolding buffered
   last_held_shown c s f = (last_held c s f).0
 
-  pub other_holds : (c s : ℕ) → Fills m c s held → (c ≡ b → ⊥) → other_held (buffered m (Filling c s) held) b ≡ true
+  pub other_holds : (c s : ℕ) → Fills m c s held → (c ≡ b → ⊥) → other_held (buffered m (filling c s) held) b ≡ true
   unfolding buffered
   other_holds c s f ne =
       let l = last_held c s f in
-      some_other (buffered m (Filling c s) held) b c (s + used held - 1) f.there ne
+      some_other (buffered m (filling c s) held) b c (s + used held - 1) f.there ne
       (λ e. l.0 (e ∙ bear.sane.settled_blank c (s + used held - 1) f.there (omega (arith, f.above, f.some)) l.1))
 
   pub accepted_mine : (st : State) → Holding m st held → (o n : ℕ) → Accepted (buffered m st held) b o n → Mine st b
   accepted_mine Empty h o n a = tt
-  accepted_mine (Filling c s) f o n a =
-      ⊎_elim (λ e. e) (λ (ne : c ≡ b → ⊥). absurd (true≢false (sym (other_holds c s f ne) ∙ a.alone))) (cases_eq c b)
+  accepted_mine (Filling at) f o n a =
+      ⊎_elim (λ e. e) (λ (ne : at.block ≡ b → ⊥). absurd (true≢false (sym (other_holds at.block at.offset f ne) ∙ a.alone))) (cases_eq at.block b)
 
   -- the flash below takes whole batches that are not below its mark
   pub below_accepted : (st : State) (o n : ℕ) → Accepted (buffered m st held) b o n → (t k : ℕ) → t / m.batch * m.batch ≡ t → k % m.batch ≡ 0 → t + k ≤ m.size → m.mark b ≤ t
@@ -132,27 +134,27 @@ module _ (m : Meaning) (bear : Bearing m) (held : List ℕ) (long : length held 
     kept_mark : (st : State) (hold : Holding m st held) (mine : Mine st b) (top : marks m st held b ≤ o) (w : List Cell) → w ≡ over (shows m st held b) o (cells run)
         → (k : ℕ) → m.mark b ≤ k → ((i : ℕ) → k ≤ i → i < m.size → get_or w i lost ≡ byte 255) → marks m st held b ≤ up m.batch k
     kept_mark Empty hold mine top w e k low blank = up_mono m.batch (has_batch m bear) (m.mark b) k low
-    kept_mark (Filling c s) f q top w e k low blank =
-        let l = last_held c s f in
-        let p = s + used held - 1 in
-        let at_b : marks m (Filling c s) held b ≡ s + used held = (λ u. with_at (raised m) (q u) (s + used held) b) ∙ here (raised m) b (s + used held) in
-        let fit : o + length (cells run) ≤ length (shows m (Filling c s) held b) =
-        rw (length-map run byte, shows_long c s f q) fits in
-        let v : get_or w p lost ≡ get_or (shows m (Filling c s) held c) p lost =
+    kept_mark (Filling at) f q top w e k low blank =
+        let l = last_held at.block at.offset f in
+        let p = at.offset + used held - 1 in
+        let at_b : marks m (Filling at) held b ≡ at.offset + used held = (λ u. with_at (raised m) (q u) (at.offset + used held) b) ∙ here (raised m) b (at.offset + used held) in
+        let fit : o + length (cells run) ≤ length (shows m (Filling at) held b) =
+        rw (length-map run byte, shows_long at.block at.offset f q) fits in
+        let v : get_or w p lost ≡ get_or (shows m (Filling at) held at.block) p lost =
         ap (λ (x : List Cell). get_or x p lost) e
-        ∙ (over_below (shows m (Filling c s) held b) o (cells run) fit p lost (omega (arith, top, at_b, f.some))
-        ∙ ap (λ (x : ℕ). get_or (shows m (Filling c s) held x) p lost) (sym q)) in
+        ∙ (over_below (shows m (Filling at) held b) o (cells run) fit p lost (omega (arith, top, at_b, f.some))
+        ∙ ap (λ (x : ℕ). get_or (shows m (Filling at) held x) p lost) (sym q)) in
         ⊎_elim (λ (h : p < k). omega (arith, at_b, h, up_le m.batch (has_batch m bear) k, f.some))
-        (λ (h : k ≤ p). absurd (over_last c s f (sym v ∙ blank p h l.1)))
+        (λ (h : k ≤ p). absurd (over_last at.block at.offset f (sym v ∙ blank p h l.1)))
         (cases_lt p k)
       where
-        shows_long : (c s : ℕ) → Fills m c s held → c ≡ b → length (shows m (Filling c s) held b) ≡ m.size
+        shows_long : (c s : ℕ) → Fills m c s held → c ≡ b → length (shows m (filling c s) held b) ≡ m.size
         shows_long c s f q =
-            ap (λ (x : ℕ). length (shows m (Filling c s) held x)) (sym q)
+            ap (λ (x : ℕ). length (shows m (filling c s) held x)) (sym q)
             ∙ (ap length (here m.shown c (over (m.shown c) s (cells held)))
             ∙ held_long m bear c s held long f.there f.starts f.within f.above)
 
-        over_last : (c s : ℕ) (f : Fills m c s held) → get_or (shows m (Filling c s) held c) (s + used held - 1) lost ≡ byte 255 → ⊥
+        over_last : (c s : ℕ) (f : Fills m c s held) → get_or (shows m (filling c s) held c) (s + used held - 1) lost ≡ byte 255 → ⊥
         over_last c s f e = last_held_shown c s f e
 
     sent_passed : (n : Meaning) (rest : List ℕ) → Sane n → Passed m b t down n → Passed (buffered m st held) b o run (buffered n Empty rest)

@@ -1,2 +1,4 @@
 pub mod Batch
 pub mod Buffered
+pub mod Sanity
+pub mod WriteBuffer

@@ -1,33 +1,31 @@
 // A write buffer over a flash whose page is a batch: it takes runs of whole words, holds the batch that they begin, and
 // passes it down once a run reaches its end. With it a flash with large pages is one with pages of four bytes.
-ghost use Rattle.std.specs.Prelude.{◌≡◌, ◌<◌, ◌≤◌, length};
+ghost use Rattle.std.specs.Prelude.{◌≡◌, ◌%◌, ◌<◌, ◌≤◌, take, length};
+ghost use Rattle.layers.specs.Buffered.{Holding, Holding-prop};
 
-// Nothing is held; or a batch of a block is, from its start on.
+use flash::interface::Flash;
+use flash::place::Place;
+
+// Nothing is held, or a batch that begins at a place. The rules name a buffer empty or filling, so it is no `Option`.
 #[derive(Clone, Copy)]
 pub enum State {
     Empty,
-    Filling { block: usize, start: usize },
+    Filling(Place),
 }
 
-// What a program asks of the buffer before its own run is laid.
-#[derive(Clone, Copy)]
-pub enum Turn {
-    // another block has bytes held
-    Other,
-    // the held batch, which begins here, ends at or before the place: it is passed down
-    First { block: usize, start: usize },
-    // nothing: no batch is held, or that of the place
-    Here,
-}
-
-// The held batch is the first `batch` bytes of `held`. While nothing is held they are all 0xFF.
+// The held batch is the first `batch` bytes of `held`: memory is fixed, and the batch is known only at run time. While
+// nothing is held they are all 0xFF.
 #[derive(Drop)]
-pub struct WriteBuffer<F> {
+pub struct WriteBuffer<F: Flash> {
     pub(crate) below: F,
     pub(crate) batch: usize,
     pub(crate) state: State,
     pub(crate) held: [u8; 512],
     ghost some: { 0 < batch },
     ghost small: { batch ≤ 512 },
+    ghost words: { batch % 4 ≡ 0 },
+    ghost pages: { (F.meaning below).page ≡ batch },
+    ghost batches: { (F.meaning below).batch ≡ batch },
     ghost full: { length held ≡ 512 },
+    ghost holding: { Holding (F.meaning below) state (take batch held) } by { Holding-prop (F.meaning below) state (take batch held) },
 }

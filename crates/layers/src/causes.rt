@@ -1,9 +1,8 @@
 // The small decisions of a write buffer: where it fits, what it shows, and what it asks, refuses and forgets.
-ghost use Rattle.std.specs.Prelude.{◌≡◌, ◌+◌, ◌-◌, ◌*◌, ◌%◌, ◌^◌, ◌<◌, ◌≤◌, length, None};
-ghost use Rattle.layers.specs.Batch.{suits, turn, caused, begins, begun, kept, left};
+ghost use Rattle.std.specs.Prelude.{◌≡◌, ◌-◌, ◌%◌, ◌<◌, length};
+ghost use Rattle.layers.specs.Batch.{suits, turn, begins, begun, kept, left};
 
-use crate::batch::fresh;
-use crate::buffer::{State, Turn};
+use crate::buffer::State;
 use flash::place::{Place, Shape};
 use flash::refusal::Refusal;
 
@@ -14,43 +13,17 @@ pub(crate) fn fits(below: Shape) -> bool
     below.page == below.batch && below.batch % 4 == 0 && below.batch <= 512 && below.batch > 0
 }
 
-// The shape of a buffer over a flash.
-pub(crate) fn words(below: Shape) -> Shape
-    ensures { (result.blocks ≡ below.blocks) × (result.size ≡ below.size) × (result.page ≡ 4) × (result.batch ≡ below.batch) }
-{
-    Shape { page: 4, ..below }
-}
-
-// What a program at a place asks of a buffer in a state.
-pub(crate) fn decide(state: State, at: Place, batch: usize) -> Turn
+// What a program at a place asks of a buffer in a state: where the batch begins that is passed down first, if one ends at or
+// before the place; or it is refused, as another block has bytes held.
+pub(crate) fn decide(state: State, at: Place, batch: usize) -> Result<Option<Place>, Refusal>
     ensures { result ≡ turn state at.block at.offset batch }
 {
     match (state, at) {
-        (State::Empty, _) => Turn::Here,
-        (State::Filling { block, .. }, Place { block: b, .. }) if b != block => Turn::Other,
-        (State::Filling { block, start }, Place { offset, .. })
-            if start <= offset && batch <= offset - start => { Turn::First { block, start } }
-        _ => Turn::Here,
-    }
-}
-
-// Why a program of n bytes is refused whose block is there and has power, if it is.
-pub(crate) fn cause(size: usize, mark: usize, at: Place, n: usize, turn: Turn) -> Option<Refusal>
-    ensures value { result ≡ caused size mark at.offset n turn }
-    ensures fits { result ≡ None → at.offset + n ≤ size }
-{
-    if n > size || at.offset > size - n {
-        return Some(Refusal::Outside);
-    }
-    if at.offset % 4 != 0 || n % 4 != 0 {
-        return Some(Refusal::NotPages);
-    }
-    if at.offset < mark {
-        return Some(Refusal::BelowMark);
-    }
-    match turn {
-        Turn::Other => Some(Refusal::OtherHeld),
-        _ => None,
+        (State::Empty, _) => Ok(None),
+        (State::Filling(start), at) if at.block != start.block => Err(Refusal::OtherHeld),
+        (State::Filling(start), at)
+            if start.offset <= at.offset && batch <= at.offset - start.offset => { Ok(Some(start)) }
+        _ => Ok(None),
     }
 }
 
@@ -62,10 +35,10 @@ pub(crate) fn begin(used: usize, at: Place, batch: usize) -> State
     if used == 0 {
         return State::Empty;
     }
-    State::Filling {
-        block: at.block,
-        start: at.offset - at.offset % batch,
-    }
+    State::Filling(Place {
+        offset: at.offset - at.offset % batch,
+        ..at
+    })
 }
 
 // Where the held batch of a block begins, if it has one.
@@ -73,7 +46,7 @@ pub(crate) fn begins(state: State, block: usize) -> Option<usize>
     ensures { result ≡ begins state block }
 {
     match state {
-        State::Filling { block: b, start } if b == block => Some(start),
+        State::Filling(start) if start.block == block => Some(start.offset),
         _ => None,
     }
 }
@@ -83,10 +56,7 @@ pub(crate) fn left(answer: Result<(), Refusal>, state: State, block: usize) -> S
     ensures { result ≡ left answer state block }
 {
     match (answer, state) {
-        (Ok(()), State::Filling { block: b, start }) if b != block => State::Filling {
-            block: b,
-            start,
-        },
+        (Ok(()), State::Filling(start)) if start.block != block => State::Filling(start),
         _ => State::Empty,
     }
 }
@@ -97,7 +67,7 @@ pub(crate) fn kept(state: State, held: [u8; 512]) -> [u8; 512]
     ensures long { length held ≡ 512 → length result ≡ 512 }
 {
     match state {
-        State::Empty => fresh(),
-        _ => held,
+        State::Empty => [0xff; 512],
+        State::Filling(_) => held,
     }
 }

@@ -6,3 +6,4 @@ pub mod buffer;
 pub mod calls;
 mod causes;
 mod pass;
+mod run;

@@ -1,122 +1,115 @@
 // What an accepted program does, step by step.
-ghost use Rattle.std.specs.Prelude.{◌≡◌, ◌+◌, ◌-◌, ◌%◌, ◌^◌, ◌<◌, ◌≤◌, length, take, replicate, Ok};
-ghost use Rattle.flash.specs.Meaning.{Sane};
+ghost use Rattle.std.specs.Prelude.{◌≡◌, ◌+◌, ◌%◌, ◌<◌, length, take, Some, Ok};
 ghost use Rattle.flash.specs.Rules.{Programmed};
-ghost use Rattle.layers.specs.Buffered.{IsSound, Accepts, IsLaid, IsNear};
+ghost use Rattle.layers.specs.WriteBuffer.{Accepts, IsLaid, IsNear};
 
-use crate::batch::{filled, fresh, put};
-use crate::buffer::{State, Turn, WriteBuffer};
-use crate::causes::{begin, decide};
+use crate::buffer::{State, WriteBuffer};
+use crate::causes::begin;
+use crate::run::Run;
+use flash::bytes::reach;
 use flash::interface::Flash;
 use flash::place::Place;
 use flash::refusal::Refusal;
 
 impl<F: Flash> WriteBuffer<F> {
-    // Passes the held batch down to a place, where a batch begins.
-    fn send(&mut self, to: Place) -> Result<(), Refusal>
-        ensures state { self.new.state ≡ State.Empty }
+    // Passes bytes down to a place. Nothing is held after it.
+    fn send(&mut self, to: Place, bytes: &[u8]) -> Result<(), Refusal>
         ensures batch { self.new.batch ≡ self.old.batch }
-        ensures held { self.new.held ≡ replicate 512 255 }
-        ensures down { F.Flash.ok self.old.below → F.Flash.ok self.new.below × Sane (F.Flash.meaning self.new.below) × Programmed (F.Flash.meaning self.old.below) to.block to.offset (take self.old.batch self.old.held) result (F.Flash.meaning self.new.below) }
+        ensures state { self.new.state ≡ State.Empty }
+        ensures down { Programmed (F.meaning self.old.below) to.block to.offset bytes.now result (F.meaning self.new.below) }
     {
-        let full = self.held;
-        let answer = self.below.program(to, &full[0..self.batch]);
-        self.held = fresh();
+        let answer = self.below.program(to, bytes);
         self.state = State::Empty;
+        self.held = [0xff; 512];
         answer
     }
 
-    // Holds a run that ends before its batch does.
-    fn keep(&mut self, at: Place, bytes: &[u8])
-        requires { at.offset % self.old.batch + length bytes.now < self.old.batch }
+    // Passes the held batch down, before a run behind it.
+    pub(crate) fn empty(&mut self, start: Place) -> Result<(), Refusal>
         ensures batch { self.new.batch ≡ self.old.batch }
-        ensures goes { IsSound F.Flash.ok F.Flash.meaning self.old → Accepts F.Flash.meaning self.old at (length bytes.now) → IsNear self.old at → IsLaid F.Flash.ok F.Flash.meaning self.old at bytes.now (Ok tt) self.new }
+        ensures state { self.new.state ≡ State.Empty }
+        ensures down { Programmed (F.meaning self.old.below) start.block start.offset (take self.old.batch self.old.held) result (F.meaning self.new.below) }
     {
-        if bytes.len() == 0 {
+        let held = self.held;
+        self.send(start, &held[..self.batch])
+    }
+
+    // Holds a run that ends before its batch does.
+    fn keep(&mut self, run: Run<'_>)
+        requires accepted { Accepts self.old run }
+        requires near { IsNear self.old run.at }
+        requires short { run.at.offset % self.old.batch + length run.bytes.now < self.old.batch }
+        ensures { IsLaid self.old run.entry (Ok tt) self.new }
+    {
+        if run.bytes.is_empty() {
             return;
         }
-        put(&mut self.held[0..self.batch], at.offset % self.batch, bytes);
-        self.state = begin(filled(&self.held[0..self.batch]), at, self.batch);
+        let into = run.at.offset % self.batch;
+        self.held[into..into + run.bytes.len()].copy_from_slice(run.bytes);
+        self.state = begin(reach(&self.held[..self.batch]), run.at, self.batch);
     }
 
     // Passes a batch down that a run ends with.
-    fn complete(&mut self, at: Place, bytes: &[u8]) -> Result<(), Refusal>
-        requires { at.offset % self.old.batch + length bytes.now ≡ self.old.batch }
+    fn complete(&mut self, run: Run<'_>) -> Result<(), Refusal>
+        requires accepted { Accepts self.old run }
+        requires near { IsNear self.old run.at }
+        requires whole { run.at.offset % self.old.batch + length run.bytes.now ≡ self.old.batch }
         ensures batch { self.new.batch ≡ self.old.batch }
         ensures state { self.new.state ≡ State.Empty }
-        ensures goes { IsSound F.Flash.ok F.Flash.meaning self.old → Accepts F.Flash.meaning self.old at (length bytes.now) → IsNear self.old at → IsLaid F.Flash.ok F.Flash.meaning self.old at bytes.now result self.new }
+        ensures goes { IsLaid self.old run.entry result self.new }
     {
-        let into = at.offset % self.batch;
-        put(&mut self.held[0..self.batch], into, bytes);
-        self.send(Place {
-            block: at.block,
-            offset: at.offset - into,
-        })
+        let into = run.at.offset % self.batch;
+        let mut full = self.held;
+        full[into..into + run.bytes.len()].copy_from_slice(run.bytes);
+        let start = Place {
+            offset: run.at.offset - into,
+            ..run.at
+        };
+        self.send(start, &full[..self.batch])
     }
 
     // Passes whole batches down as they are.
-    fn direct(&mut self, at: Place, bytes: &[u8]) -> Result<(), Refusal>
-        requires { (at.offset % self.old.batch ≡ 0) × (length bytes.now % self.old.batch ≡ 0) }
+    fn direct(&mut self, run: Run<'_>) -> Result<(), Refusal>
+        requires accepted { Accepts self.old run }
+        requires empty { self.old.state ≡ State.Empty }
+        requires whole { (run.at.offset % self.old.batch ≡ 0) × (length run.bytes.now % self.old.batch ≡ 0) }
         ensures batch { self.new.batch ≡ self.old.batch }
-        ensures state { self.new.state ≡ self.old.state }
-        ensures goes { IsSound F.Flash.ok F.Flash.meaning self.old → Accepts F.Flash.meaning self.old at (length bytes.now) → self.old.state ≡ State.Empty → IsLaid F.Flash.ok F.Flash.meaning self.old at bytes.now result self.new }
+        ensures state { self.new.state ≡ State.Empty }
+        ensures goes { IsLaid self.old run.entry result self.new }
     {
-        if bytes.len() == 0 {
+        if run.bytes.is_empty() {
             return Ok(());
         }
-        self.below.program(at, bytes)
+        self.send(run.at, run.bytes)
     }
 
     // Lays a run at the start of a batch: its whole batches are passed down, and what is left is held.
-    fn rest(&mut self, at: Place, bytes: &[u8]) -> Result<(), Refusal>
-        requires { (at.offset % self.old.batch ≡ 0) × (at.offset + length bytes.now < 2 ^ 64) }
-        ensures { IsSound F.Flash.ok F.Flash.meaning self.old → Accepts F.Flash.meaning self.old at (length bytes.now) → self.old.state ≡ State.Empty → IsLaid F.Flash.ok F.Flash.meaning self.old at bytes.now result self.new }
+    fn rest(&mut self, run: Run<'_>) -> Result<(), Refusal>
+        requires accepted { Accepts self.old run }
+        requires empty { self.old.state ≡ State.Empty }
+        requires whole { run.at.offset % self.old.batch ≡ 0 }
+        ensures { IsLaid self.old run.entry result self.new }
     {
-        let n = bytes.len();
-        let whole = n - n % self.batch;
-        self.direct(at, &bytes[0..whole])?;
-        let tail = Place {
-            block: at.block,
-            offset: at.offset + whole,
-        };
-        self.keep(tail, &bytes[whole..n]);
+        let n = run.bytes.len();
+        let (whole, tail) = run.split_at(n - n % self.batch);
+        self.direct(whole)?;
+        self.keep(tail);
         Ok(())
     }
 
     // Lays a run in the held batch, or in one of which nothing is held.
-    fn follow(&mut self, at: Place, bytes: &[u8]) -> Result<(), Refusal>
-        requires { at.offset + length bytes.now < 2 ^ 64 }
-        ensures { IsSound F.Flash.ok F.Flash.meaning self.old → Accepts F.Flash.meaning self.old at (length bytes.now) → IsNear self.old at → IsLaid F.Flash.ok F.Flash.meaning self.old at bytes.now result self.new }
+    pub(crate) fn lay(&mut self, run: Run<'_>) -> Result<(), Refusal>
+        requires accepted { Accepts self.old run }
+        requires near { IsNear self.old run.at }
+        ensures { IsLaid self.old run.entry result self.new }
     {
-        let n = bytes.len();
-        let room = self.batch - at.offset % self.batch;
-        if n < room {
-            self.keep(at, bytes);
+        let room = self.batch - run.at.offset % self.batch;
+        if run.bytes.len() < room {
+            self.keep(run);
             return Ok(());
         }
-        self.complete(at, &bytes[0..room])?;
-        let next = Place {
-            block: at.block,
-            offset: at.offset + room,
-        };
-        self.rest(next, &bytes[room..n])
-    }
-
-    // Lays a run that is not refused, as the state and the place ask.
-    pub(crate) fn lay(&mut self, at: Place, bytes: &[u8]) -> Result<(), Refusal>
-        requires { at.offset + length bytes.now < 2 ^ 64 }
-        ensures { IsSound F.Flash.ok F.Flash.meaning self.old → Accepts F.Flash.meaning self.old at (length bytes.now) → IsLaid F.Flash.ok F.Flash.meaning self.old at bytes.now result self.new }
-    {
-        match decide(self.state, at, self.batch) {
-            Turn::Other => Err(Refusal::OtherHeld),
-            Turn::First { block, start } => {
-                self.send(Place {
-                    block,
-                    offset: start,
-                })?;
-                self.follow(at, bytes)
-            }
-            Turn::Here => self.follow(at, bytes),
-        }
+        let (first, rest) = run.split_at(room);
+        self.complete(first)?;
+        self.rest(rest)
     }
 }

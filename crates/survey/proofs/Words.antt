@@ -1,14 +1,14 @@
 -- Words of a block, read one by one.
-use Rattle.std.proofs.Common.{◌≡◌, ℕ, zero, suc, ◌+◌, ◌-◌, ◌*◌, ◌/◌, ◌<◌, ◌≤◌, Bool, true, false, cond, not, List, [], ◌∷◌, ◌++◌, length, get_or, take, drop, set, Some, None, Err, sym, refl, ap, ◌∙◌, subst, arith, length-drop, length-take}
+use Rattle.std.proofs.Common.{◌≡◌, ℕ, zero, suc, ◌+◌, ◌-◌, ◌*◌, ◌/◌, ◌<◌, ◌≤◌, Bool, true, false, cond, not, List, [], ◌∷◌, ◌++◌, length, get_or, take, drop, set, Some, None, is_ok, sym, refl, ap, ◌∙◌, subst, arith, length-drop, length-take}
 use native.Mathlib.Decide.{dec_lt}
 use borrow.Rule.Slice.PartMut.{put_mid}
 use Rattle.std.proofs.lemmas.List.{drop-drop, ext_get_or, get_or-map, get_or-take, get_or-drop, get_or-set_same, get_or-set_other}
 use Rattle.flash.specs.declared.refusal.Refusal.{Refusal}
 use Rattle.flash.specs.declared.refusal.Refusal.TheVariants.{Unreadable}
 use Rattle.flash.specs.Cells.{Cell, byte, lost, over}
-use Rattle.flash.specs.Meaning.{Meaning, shown_at}
+use Rattle.flash.specs.Meaning.{Meaning, Sane, shown_at}
 use Rattle.flash.specs.Refused.{first, place_causes, place_refusal, read_refusal, readable, part}
-use Rattle.flash.specs.Rules.{Fetched, refused, done}
+use Rattle.flash.specs.Rules.{Answer, Fetched, refused, done}
 use Rattle.flash.proofs.Accepting.{place_accepted}
 use Rattle.flash.proofs.Over.{over_below, over_in}
 use Rattle.flash.proofs.Refusals.{first_none, Inside, place_inside}
@@ -16,9 +16,10 @@ use Rattle.nodes.specs.Seen.{seen, seen_from}
 use Rattle.nodes.proofs.Cuts.{length_seen}
 use Rattle.survey.specs.Surveyed.{WordRead, can, cannot, Noted, Fits}
 
-pub word_cannot : (m : Meaning) (b o : ℕ) (old new : List ℕ) (e : Refusal) → Fetched m b o old (Err e) new → WordRead m b o old false new
-word_cannot m b o old new e (refused x q r n) = cannot refl x q n
-word_cannot m b o old new e (done q r c) = absurd (let z : ◌≡◌ {A = ℕ} 0 1 = cc in omega arith)
+-- a word was read, or could not be
+pub word_tried : (m : Meaning) (b o : ℕ) (old new : List ℕ) (r : Answer) → Fetched m b o old r new → WordRead m b o old (is_ok r) new
+word_tried m b o old new r (refused x q e n) = rw e (cannot refl x q n)
+word_tried m b o old new r (done q e c) = rw e (can refl c)
 
 -- a part written is laid over
 pub put_over : (xs ys : List ℕ) (a k : ℕ) → length ys ≡ k → put_mid a k xs ys ≡ over xs a ys
@@ -56,14 +57,14 @@ read_unreadable m b o n e p q = go (readable (part (m.shown b) o n)) (sym (first
     go true h = absurd (let z : ◌≡◌ {A = ℕ} 0 1 = cc in omega arith)
     go false h = refl
 
-module _ (m : Meaning) (b : ℕ) (old : List ℕ) (fs : List Bool) (F : Fits m b old fs) where
+module _ (m : Meaning) (b : ℕ) (old : List ℕ) (fs : List Bool) (sane : Sane m) (F : Fits m b old fs) where
   is_there : Inside m b 0 (length old)
   is_there = place_inside m b 0 (length old) F.there
 
   -- a word that cannot be read has no cell that can
   word_lost : (i : ℕ) (e : Refusal) → i * 4 + 4 ≤ m.size → read_refusal m b (i * 4) 4 ≡ Some e → (j : ℕ) → i * 4 ≤ j → j < i * 4 + 4 → shown_at m b j ≡ lost
   word_lost i e room q j from to =
-      F.sane.shown_pages b (i * 4 + k.0) j is_there.there (omega (arith, short)) (omega arith)
+      sane.shown_pages b (i * 4 + k.0) j is_there.there (omega (arith, short)) (omega arith)
       (subst (λ (p : ℕ). (i * 4 + k.0) / p ≡ j / p) (sym F.words) same) here
     where
       k : (k : ℕ) × (k < length (part (m.shown b) (i * 4) 4)) × (get_or (part (m.shown b) (i * 4) 4) k lost ≡ lost)
@@ -113,5 +114,5 @@ module _ (m : Meaning) (b : ℕ) (old : List ℕ) (fs : List Bool) (F : Fits m b
             ∙ word_read N.flag N.word N.long N.read j (omega arith) to
 
 -- a block has as many cells as bytes were asked for
-pub shown_whole : (m : Meaning) (b : ℕ) (old : List ℕ) (fs : List Bool) → Fits m b old fs → length old ≡ length (m.shown b)
-shown_whole m b old fs F = F.whole ∙ sym (F.sane.shown_length b (place_inside m b 0 (length old) F.there).there)
+pub shown_whole : (m : Meaning) (b : ℕ) (old : List ℕ) (fs : List Bool) → Sane m → Fits m b old fs → length old ≡ length (m.shown b)
+shown_whole m b old fs sane F = F.whole ∙ sym (sane.shown_length b (place_inside m b 0 (length old) F.there).there)

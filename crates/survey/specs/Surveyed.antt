@@ -8,7 +8,7 @@
 use Rattle.std.specs.Prelude.{◌≡◌, ℕ, ◌*◌, Bool, true, false, List, length, take, drop, Some, None, Ok, Err, slice_set}
 use Rattle.flash.specs.declared.refusal.Refusal.{Refusal}
 use Rattle.flash.specs.Cells.{cells, over}
-use Rattle.flash.specs.Meaning.{Meaning, Sane}
+use Rattle.flash.specs.Meaning.{Meaning}
 use Rattle.flash.specs.Refused.{place_refusal, read_refusal, part}
 use Rattle.flash.specs.Rules.{Answer}
 use Rattle.nodes.specs.Seen.{seen}
@@ -26,7 +26,6 @@ pub record Noted (m : Meaning) (b i : ℕ) (old : List ℕ) (fs : List Bool) (ne
   pub read : WordRead m b (i * 4) (take 4 (drop (i * 4) old)) flag word
 
 pub record Fits (m : Meaning) (b : ℕ) (bytes : List ℕ) (flags : List Bool) : Type 0 where
-  pub sane : Sane m
   pub there : place_refusal m b 0 (length bytes) ≡ None
   pub words : m.page ≡ 4
   pub whole : length bytes ≡ m.size

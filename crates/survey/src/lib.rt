@@ -12,18 +12,15 @@ use flash::refusal::Refusal;
 
 // Reads a word, if it can be read.
 fn read_word<F: Flash>(flash: &F, at: Place, word: &mut [u8]) -> bool
-    ensures { F.Flash.ok flash.now → WordRead (F.Flash.meaning flash.now) at.block at.offset word.old result word.new }
+    ensures { WordRead (F.meaning flash.now) at.block at.offset word.old result word.new }
 {
-    match flash.read(at, word) {
-        Ok(()) => true,
-        Err(_) => false,
-    }
+    flash.read(at, word).is_ok()
 }
 
 // Reads the i-th word of a block, and notes whether it can be read.
 fn note_word<F: Flash>(flash: &F, block: usize, i: usize, bytes: &mut [u8], readable: &mut [bool])
     requires { (i * 4 + 4 ≤ length bytes.old) × (i < length readable.old) }
-    ensures { F.Flash.ok flash.now → Noted (F.Flash.meaning flash.now) block i bytes.old readable.old bytes.new readable.new }
+    ensures { Noted (F.meaning flash.now) block i bytes.old readable.old bytes.new readable.new }
 {
     let from = i * 4;
     let at = Place {
@@ -33,21 +30,15 @@ fn note_word<F: Flash>(flash: &F, block: usize, i: usize, bytes: &mut [u8], read
     readable[i] = read_word(flash, at, &mut bytes[from..from + 4]);
 }
 
-// Reads a block word by word, as some of them cannot be read.
+// Reads a block word by word, as some of them cannot be read. By index: after a loop over `chunks_exact_mut` with
+// `iter_mut` no proof knows what the elements are (tried).
 fn read_words<F: Flash>(flash: &F, block: usize, bytes: &mut [u8], readable: &mut [bool])
-    ensures { F.Flash.ok flash.now → Fits (F.Flash.meaning flash.now) block bytes.old readable.old → seen readable.new bytes.new ≡ (F.Flash.meaning flash.now).shown block }
+    ensures { Fits (F.meaning flash.now) block bytes.old readable.old → seen readable.new bytes.new ≡ (F.meaning flash.now).shown block }
 {
     let words = readable.len().min(bytes.len() / 4);
     for i in 0..words {
         note_word(flash, block, i, bytes, readable);
     }
-}
-
-// Notes that all can be read.
-fn note_all(readable: &mut [bool])
-    ensures { readable.new ≡ replicate (length readable.old) true }
-{
-    readable.fill(true);
 }
 
 // Reads a block into `bytes`, which is as long as the block, and notes in `readable`, for each 4 bytes, whether they can be
@@ -58,15 +49,15 @@ pub fn read_block<F: Flash>(
     bytes: &mut [u8],
     readable: &mut [bool],
 ) -> Result<(), Refusal>
-    ensures { F.Flash.ok flash.now → Surveyed (F.Flash.meaning flash.now) block bytes.old readable.old result bytes.new readable.new }
+    ensures { Surveyed (F.meaning flash.now) block bytes.old readable.old result bytes.new readable.new }
 {
     match flash.read(Place { block, offset: 0 }, bytes) {
         Ok(()) => {
-            note_all(readable);
+            readable.fill(true);
             Ok(())
         }
         Err(refusal) => {
-            if refusal.number() != Refusal::Unreadable.number() {
+            if refusal != Refusal::Unreadable {
                 return Err(refusal);
             }
             read_words(flash, block, bytes, readable);

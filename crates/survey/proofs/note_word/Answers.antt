@@ -4,7 +4,7 @@ use Rattle.survey.proofs.Words.{put_over}
 use Rattle.survey.proofs.note_word.Goals as goal
 
 pub returns : goal.returns
-returns g c ok =
+returns g c =
     let a = c.args.i * 4 in
     let old = c.args.bytes.now in
     let new = c.read_word.new.word in
@@ -17,5 +17,5 @@ returns g c ok =
       long = long;
       bytes = put_over old new a (a + 4 - a) (long ∙ sym four);
       flags = refl;
-      read = subst (λ (k : ℕ). WordRead (g.F.Flash.meaning c.args.flash.now) c.args.block a (take k (drop a old)) c.read_word.result new) four (c.read_word.ensures ok);
+      read = subst (λ (k : ℕ). WordRead (g.F.Flash.meaning c.args.flash.now) c.args.block a (take k (drop a old)) c.read_word.result new) four c.read_word.ensures;
     }

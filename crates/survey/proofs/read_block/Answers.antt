@@ -1,19 +1,15 @@
-use Rattle.std.proofs.Common.{sym, ◌∙◌}
+use Rattle.std.proofs.Common.{◌≡◌, rules}
+use Rattle.flash.specs.declared.refusal.Refusal.TheVariants.{Unreadable}
 use Rattle.survey.proofs.Blocks.{block_refused, block_read, block_words}
 use Rattle.survey.proofs.read_block.Goals as goal
 
-pub returns-then-number : goal.returns-then-number
-returns-then-number g c ok =
-    block_refused (g.F.Flash.meaning c.args.flash.now) c.args.block c.args.bytes.now c.args.readable.now c.read.new.out
-    c.in-Err.refusal (c.in-Err.ensures ok) (λ k. c.if-number.true (c.number.ensures ∙ k ∙ sym c.number-in-Err.ensures))
-
 pub returns-in-Ok : goal.returns-in-Ok
-returns-in-Ok g c ok =
-    block_read (g.F.Flash.meaning c.args.flash.now) c.args.block c.args.bytes.now c.args.readable.now c.read.new.out
-    c.note_all.new.readable c.read.auto.out c.note_all.ensures (c.in-Ok.ensures ok)
+returns-in-Ok g c = block_read _ _ _ _ _ (g.met.F.Flash.sane c.args.flash.now) _ c.read.auto.out (search rules) c.in-Ok.ensures
 
-pub returns-else-number : goal.returns-else-number
-returns-else-number g c ok =
-    block_words (g.F.Flash.meaning c.args.flash.now) c.args.block c.args.bytes.now c.args.readable.now c.read.new.out
-    c.in-Err.refusal c.read_words.new.bytes c.read_words.new.readable (c.in-Err.ensures ok)
-    (sym c.number.ensures ∙ c.if-number.false ∙ c.number-in-Err.ensures) (c.read_words.ensures ok)
+pub returns-then-ne : goal.returns-then-ne
+returns-then-ne g c = block_refused _ _ _ _ _ c.in-Err.refusal c.in-Err.ensures (search rules)
+
+pub returns-else-ne : goal.returns-else-ne
+returns-else-ne g c =
+    let e : c.in-Err.refusal ≡ Unreadable = search rules in
+    block_words _ _ _ _ _ _ _ (rw (← e) c.in-Err.ensures) c.read_words.ensures

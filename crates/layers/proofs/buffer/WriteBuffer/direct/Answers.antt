@@ -1,19 +1,14 @@
-use Rattle.std.proofs.Common.{refl}
+use Rattle.std.proofs.Common.{rules}
+use Rattle.layers.specs.Sanity.{sound_of}
 use Rattle.layers.proofs.Told.{tells_nothing, tells_down}
 use Rattle.layers.proofs.buffer.WriteBuffer.direct.Goals as goal
 
-pub returns-then-bytes-eq0 : goal.returns-then-bytes-eq0
-returns-then-bytes-eq0 g c = record {
-  batch = refl;
-  state = refl;
-  goes = λ s n e. (s, tells_nothing _ _ _ _ _ _ c.args.bytes.now s c.args.self.now.small c.args.self.now.full n (rw e tt) c.if-bytes-eq0.true);
-}
+pub returns-then-is_empty-clause-goes : goal.returns-then-is_empty-clause-goes
+returns-then-is_empty-clause-goes g c =
+    tells_nothing (sound_of g.met.F.Flash.sane c.args.self.now) _ _ _ c.requires.accepted (rw c.requires.empty tt) (search rules)
 
-pub returns : goal.returns
-returns g c = record {
-  batch = refl;
-  state = refl;
-  goes = λ s n e.
-      let p = c.program.ensures s.below in
-      tells_down _ _ _ _ _ _ _ s c.args.self.now.small c.args.self.now.full n _ _ p.0 p.1 e c.requires.0 c.requires.1 p.2;
-}
+pub returns-clause-goes : goal.returns-clause-goes
+returns-clause-goes g c =
+    let v = c.send.new.self in
+    rw (c.send.ensures.state, c.send.ensures.batch)
+    (tells_down (sound_of g.met.F.Flash.sane c.args.self.now) _ _ _ c.requires.accepted _ _ (g.met.F.Flash.sane v.below) v.held c.requires.empty c.requires.whole.0 c.requires.whole.1 c.send.ensures.down)

@@ -1,19 +1,19 @@
-use Rattle.std.proofs.Common.{true, refl}
-use Rattle.layers.proofs.Start.{suits_is, suits_if, starts}
+use Rattle.std.proofs.Common.{ℕ, sym, ◌∙◌, refl}
+use lib.ListN.{length-replicate}
+use Rattle.layers.proofs.Moves.{blank_holds}
+use Rattle.layers.proofs.Start.{suits_is}
 use Rattle.layers.proofs.buffer.WriteBuffer.new.Goals as goal
-
-pub returns : goal.returns
-returns g c = λ k.
-    let m = g.F.Flash.meaning c.args.below in
-    let shape = c.shape-shape.result in
-    let shaped = c.shape-shape.ensures.value k in (
-      starts m shape shaped (g.F.Flash.ok c.args.below) k (c.shape-shape.ensures.sane k) c.if-not-fits.ensures c.fresh-held.ensures.value,
-      refl,
-      refl,
-      suits_if m shape shaped true c.if-not-fits.ensures,
-    )
 
 pub invariant_of-result : goal.invariant_of-result
 invariant_of-result g c =
+    let e = c.shape-shape.ensures in
     let q = suits_is _ _ c.if-not-fits.ensures in
-    record { some = q.3; small = q.2; full = c.fresh-held.ensures.long }
+    record {
+      some = q.3;
+      small = q.2;
+      words = q.1;
+      pages = sym e.2 ∙ q.0;
+      batches = sym e.3;
+      full = length-replicate {A = ℕ} 512 255;
+      holding = blank_holds _ _ q.2 refl;
+    }

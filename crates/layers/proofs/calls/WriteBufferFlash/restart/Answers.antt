@@ -1,7 +1,14 @@
-use Rattle.layers.proofs.Others.{restarts_of}
+use lib.ListN.{length-replicate}
+use Rattle.std.proofs.Common.{ℕ, refl}
+use Rattle.layers.specs.Sanity.{sound_of}
+use Rattle.layers.proofs.Others.{restarts}
 use Rattle.layers.proofs.calls.WriteBufferFlash.restart.Goals as goal
 
+pub invariant_of-self : goal.invariant_of-self
+invariant_of-self g c =
+    let w = c.args.self.now in
+    let k = (restarts (sound_of g.met.F.Flash.sane w) _ c.restart.ensures _ refl).0 in
+    record { some = w.some; small = w.small; words = w.words; pages = k.pages; batches = k.batches; full = length-replicate {A = ℕ} 512 255; holding = k.holding }
+
 pub returns : goal.returns
-returns g c = λ s.
-    let e = c.go_on.ensures in
-    restarts_of g.F.Flash.ok g.F.Flash.meaning c.args.self.now s c.restart_below.new.below c.go_on.new.self e.below e.batch e.state e.held (c.restart_below.ensures s.below)
+returns g c = (restarts (sound_of g.met.F.Flash.sane c.args.self.now) _ c.restart.ensures _ refl).1

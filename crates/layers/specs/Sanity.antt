@@ -1,15 +1,22 @@
--- A write buffer over a flash is a flash.
-use Rattle.std.proofs.Common.{◌≡◌, ℕ, ◌+◌, ◌-◌, ◌*◌, ◌/◌, ◌<◌, ◌≤◌, cond, List, length, get_or, sym, refl, ◌∙◌, subst, ⊎_elim, arith}
+-- A write buffer over a flash is a flash: the law of its impl, with the lemmas that it needs.
+pub mod Rounding
+pub mod Rows
+use Rattle.std.proofs.Common.{◌≡◌, ℕ, ◌+◌, ◌-◌, ◌*◌, ◌/◌, ◌<◌, ◌≤◌, cond, List, length, take, get_or, sym, refl, ◌∙◌, subst, ⊎_elim, arith}
 use Rattle.std.proofs.lemmas.Bool.{cases_lt}
+use Rattle.std.proofs.lemmas.List.{length-take-le}
+use Rattle.flash.specs.declared.interface.Flash.{Ghosts}
 use Rattle.flash.specs.Cells.{Cell, byte, lost, cells, over}
 use Rattle.flash.specs.Meaning.{Meaning, Sane, settled_at}
 use Rattle.flash.proofs.Over.{by_place}
-use Rattle.layers.specs.Batch.{used}
-use Rattle.layers.specs.Buffered.{raised, buffered, Fills, Holding, Bearing}
+use Rattle.flash.specs.Extent.{used}
+use Rattle.layers.specs.Batch.{filling}
+use Rattle.layers.specs.Buffered.{raised, buffered, Fills, Holding, Bearing, Sound}
+use Rattle.layers.specs.WriteBuffer.{means}
+use Rattle.layers.specs.declared.buffer.WriteBuffer.{WriteBuffer}
 use Rattle.layers.specs.declared.buffer.State.{State}
 use Rattle.layers.specs.declared.buffer.State.TheVariants.{Empty, Filling}
-use Rattle.layers.proofs.Layer.{has_batch, raised_within, words_at, same_batch, agrees_at, held_long, held_below, lost_under, lost_over, held_blank}
-use Rattle.layers.proofs.Used.{up_le, start_is}
+use Rattle.layers.specs.Sanity.Rows.{has_batch, raised_within, words_at, same_batch, agrees_at, held_long, held_below, lost_under, lost_over, held_blank}
+use Rattle.layers.specs.Sanity.Rounding.{up_le, start_is}
 
 module _ (m : Meaning) (bear : Bearing m) (held : List ℕ) (long : length held ≡ m.batch) where
   sane_empty : Sane (buffered m Empty held)
@@ -65,7 +72,7 @@ module _ (m : Meaning) (bear : Bearing m) (held : List ℕ) (long : length held 
         (bear.sane.shown_pages b i j f.there k l (same_batch m bear i j e)
         (lost_under m bear b s held long f.there f.starts f.within f.above i k h))
 
-    sane_filling : Sane (buffered m (Filling b s) held)
+    sane_filling : Sane (buffered m (filling b s) held)
     unfolding buffered
     sane_filling = record {
       some_page = omega arith;
@@ -109,4 +116,28 @@ module _ (m : Meaning) (bear : Bearing m) (held : List ℕ) (long : length held 
 
   pub sane_buffered : (st : State) → Holding m st held → Sane (buffered m st held)
   sane_buffered Empty h = sane_empty
-  sane_buffered (Filling b s) f = sane_filling b s f
+  sane_buffered (Filling start) f = sane_filling start.block start.offset f
+
+pub batch_long : {m : Meaning} {batch : ℕ} {st : State} {held : List ℕ} → Sound m batch st held → length (take batch held) ≡ m.batch
+batch_long {m} {batch} {st} {held} s = length-take-le batch held (omega (arith, s.full, s.small)) ∙ sym s.same
+
+module _ {F : Type 0} {g : Ghosts F} (sane : (x : F) → Sane (g.meaning x)) where
+  -- what the type of a write buffer says
+  pub sound_of : (w : WriteBuffer F g) → Sound (g.meaning w.below) w.batch w.state w.held
+  sound_of w = record {
+    bears = record {
+      sane = sane w.below;
+      whole = w.pages ∙ sym w.batches;
+      words = rw w.batches w.words;
+      small = rw w.batches w.small;
+    };
+    same = w.batches;
+    small = w.small;
+    full = w.full;
+    holding = w.holding;
+  }
+
+  pub means-sane : (w : WriteBuffer F g) → Sane (means w)
+  means-sane w =
+      let s = sound_of w in
+      sane_buffered (g.meaning w.below) s.bears (take w.batch w.held) (batch_long s) w.state s.holding

@@ -1,4 +1,4 @@
--- A write buffer buffered a flash is a flash.
+-- The row of a block with a held batch over it.
 use Rattle.std.proofs.Common.{◌≡◌, ℕ, ◌+◌, ◌-◌, ◌*◌, ◌/◌, ◌%◌, ◌<◌, ◌≤◌, List, length, get_or, sym, ap, ◌∙◌, ⊎_elim, mul_assoc, mul_comm, arith}
 use native.Mathlib.Nat.{mul-mod_left, div-div-eq-div-mul}
 use lib.ListN.{length-map}
@@ -9,9 +9,10 @@ use Rattle.flash.specs.Meaning.{Meaning, shown_at, settled_at}
 use Rattle.flash.proofs.Batches.{whole_batches}
 use Rattle.flash.proofs.Over.{over_length, over_below, over_in, over_above}
 use Rattle.flash.proofs.Settled.{nothing_held}
-use Rattle.layers.specs.Batch.{used}
+use Rattle.flash.specs.Extent.{used}
 use Rattle.layers.specs.Buffered.{raised, Bearing}
-use Rattle.layers.proofs.Used.{used_from, up_at}
+use Rattle.flash.proofs.Extents.{unused}
+use Rattle.layers.specs.Sanity.Rounding.{up_at}
 
 pub byte_lost : {x : ℕ} → byte x ≡ lost → ⊥
 byte_lost h = let z : ◌≡◌ {A = ℕ} 0 1 = cc in omega arith
@@ -97,7 +98,7 @@ module _ (m : Meaning) (bear : Bearing m) where
         ⊎_elim (held_below i)
         (λ (lo : s ≤ i). ⊎_elim
         (λ (hi : i < s + m.batch).
-        held_in i lo hi ∙ (ap byte (used_from held (i - s) (omega (arith, z)) (omega (arith, long))) ∙ sym (blank_below b s i there above lo l)))
+        held_in i lo hi ∙ (ap byte (unused held (i - s) (omega (arith, z)) (omega (arith, long))) ∙ sym (blank_below b s i there above lo l)))
         (held_above i) (cases_lt i (s + m.batch)))
         (cases_lt i s))
 
@@ -105,6 +106,6 @@ module _ (m : Meaning) (bear : Bearing m) where
     pub held_blank : (i : ℕ) → s + used held ≤ i → i < m.size → get_or over_held i lost ≡ byte 255
     held_blank i lo l =
         ⊎_elim
-        (λ (hi : i < s + m.batch). held_in i (omega arith) hi ∙ ap byte (used_from held (i - s) (omega arith) (omega (arith, long))))
+        (λ (hi : i < s + m.batch). held_in i (omega arith) hi ∙ ap byte (unused held (i - s) (omega arith) (omega (arith, long))))
         (λ (hi : s + m.batch ≤ i). held_above i hi ∙ blank_below b s i there above (omega arith) l)
         (cases_lt i (s + m.batch))
