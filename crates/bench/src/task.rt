@@ -5,12 +5,12 @@ use bench_parts::log::Log;
 use bench_parts::pieces::{content, entry};
 use bench_parts::show::{Answer, Mark};
 use encode::filler::marker;
-use encode::node::{encode_content, encode_entry};
+use encode::node::{Node, encode};
 use flash::interface::Flash;
 use flash::place::Place;
 use kinds::FileKind;
+use nodes::image::Image;
 use nodes::reader::Reader;
-use nodes::record::{Content, Entry};
 
 pub(crate) const BLOCK: usize = 4096;
 
@@ -54,13 +54,12 @@ impl<F: Flash + Drop> Task<'_, F> {
         self.lay("marker", n)
     }
 
-    fn lay_entry(&mut self, what: &'static str, entry: &Entry<'_>) -> anyhow::Result<()> {
-        let n = encode_entry(entry, &mut self.run).context("an entry that cannot be laid")?;
-        self.lay(what, n)
-    }
-
-    fn lay_content(&mut self, what: &'static str, content: &Content<'_>) -> anyhow::Result<()> {
-        let n = encode_content(content, &mut self.run).context("a content that cannot be laid")?;
+    fn lay_node<const WORDS: usize, const MOST: usize, N: Node<WORDS, MOST>>(
+        &mut self,
+        what: &'static str,
+        node: &N,
+    ) -> anyhow::Result<()> {
+        let n = encode(node, &mut self.run).context("a node that cannot be laid")?;
         self.lay(what, n)
     }
 
@@ -80,13 +79,13 @@ impl<F: Flash + Drop> Task<'_, F> {
     fn fill(&mut self) -> anyhow::Result<()> {
         let dir = FileKind::Directory;
         let file = FileKind::File;
-        self.lay_content("directory 2", &content(TOP, 1, dir, 0, b""))?;
-        self.lay_entry("its name, /top", &entry(ROOT, TOP, dir, b"top"))?;
-        self.lay_content("file 3", &content(TRACK, 1, file, 0, b""))?;
+        self.lay_node("directory 2", &content(TOP, 1, dir, 0, b""))?;
+        self.lay_node("its name, /top", &entry(ROOT, TOP, dir, b"top"))?;
+        self.lay_node("file 3", &content(TRACK, 1, file, 0, b""))?;
         let name = entry(TOP, TRACK, file, b"track-7");
-        self.lay_entry("its name, /top/track-7", &name)?;
+        self.lay_node("its name, /top/track-7", &name)?;
         let text = b"net GND 100,200 to 100,900\n";
-        self.lay_content("27 bytes of it", &content(TRACK, 2, file, 0, text))
+        self.lay_node("27 bytes of it", &content(TRACK, 2, file, 0, text))
     }
 
     // Cuts the power in the middle of the next content, and restarts.
@@ -95,7 +94,7 @@ impl<F: Flash + Drop> Task<'_, F> {
         println!(self.rt; "arm: 9 more words succeed, the next fails with fault 0x10: {answer}")?;
         let more = b"net VCC 300,200 to 300,900\n";
         let content = content(TRACK, 3, FileKind::File, 27, more);
-        self.lay_content("27 bytes more", &content)?;
+        self.lay_node("27 bytes more", &content)?;
         self.erase()?;
         self.mark()?;
         self.card.restart();
@@ -104,10 +103,9 @@ impl<F: Flash + Drop> Task<'_, F> {
     }
 
     // Prints each item of the block with its place, and answers how far into the block they begin.
-    fn show_items(&self, bytes: &[u8]) -> anyhow::Result<usize> {
+    fn show_items(&self, image: Image<'_>) -> anyhow::Result<usize> {
         let mut reached: usize = 0;
-        let mut reader = Reader::new(WORK, bytes, &[true; BLOCK / 4]);
-        while let Some(found) = reader.next() {
+        for found in Reader::new(WORK, image) {
             let Place { block, offset } = found.place;
             let item = Shown(found.item);
             println!(self.rt; "  block {block}, offset {offset}: {item}")?;
@@ -125,7 +123,10 @@ impl<F: Flash + Drop> Task<'_, F> {
         };
         let answer = Answer(self.card.read(start, &mut bytes));
         println!(self.rt; "read block {WORK}: {answer}")?;
-        let reached = self.show_items(&bytes)?;
+        let reached = self.show_items(Image {
+            bytes: &bytes,
+            readable: &[true; BLOCK / 4],
+        })?;
         let asked = self.log.asked.iter();
         for lost in asked.filter(|asked| asked.offset >= reached) {
             let offset = lost.offset;

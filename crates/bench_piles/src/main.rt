@@ -8,12 +8,12 @@ mod story;
 mod task;
 
 use bench_parts::show::Answer;
+use devices::nand::Nand;
 use devices::nor::Nor;
+use devices::pages::NandPage;
 use flash::interface::Flash;
 use flash::refusal::Refusal;
 use layers::buffer::WriteBuffer;
-use devices::nand::Nand;
-use devices::pages::NandPage;
 use std::io;
 use story::{Loss, perform};
 use task::Task;

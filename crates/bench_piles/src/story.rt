@@ -31,13 +31,13 @@ fn fill<F: Flash + Drop>(task: &mut Task<'_, F>) -> io::Result<()> {
     let file = FileKind::File;
     task.erase()?;
     task.lay_marker()?;
-    task.lay_content("directory 2", &content(TOP, 1, dir, 0, b""))?;
-    task.lay_entry("its name, /top", &entry(ROOT, TOP, dir, b"top"))?;
-    task.lay_content("file 3", &content(TRACK, 1, file, 0, b""))?;
+    task.lay_node("directory 2", &content(TOP, 1, dir, 0, b""))?;
+    task.lay_node("its name, /top", &entry(ROOT, TOP, dir, b"top"))?;
+    task.lay_node("file 3", &content(TRACK, 1, file, 0, b""))?;
     let name = entry(TOP, TRACK, file, b"track-7");
-    task.lay_entry("its name, /top/track-7", &name)?;
+    task.lay_node("its name, /top/track-7", &name)?;
     let text = b"net GND 100,200 to 100,900\n";
-    task.lay_content("27 bytes of it", &content(TRACK, 2, file, 0, text))?;
+    task.lay_node("27 bytes of it", &content(TRACK, 2, file, 0, text))?;
     task.sync()
 }
 
@@ -45,7 +45,7 @@ fn fill<F: Flash + Drop>(task: &mut Task<'_, F>) -> io::Result<()> {
 fn more<F: Flash + Drop>(task: &mut Task<'_, F>) -> io::Result<()> {
     let text = b"net VCC 300,200 to 300,900\n";
     let content = content(TRACK, 3, FileKind::File, 27, text);
-    task.lay_content("27 bytes more", &content)
+    task.lay_node("27 bytes more", &content)
 }
 
 fn lose<F: Flash + Drop>(task: &mut Task<'_, F>, loss: Loss) -> io::Result<()> {

@@ -4,12 +4,12 @@ use crate::show::Shown;
 use bench_parts::log::Log;
 use bench_parts::show::{Answer, Mark};
 use encode::filler::{filling, marker};
-use encode::node::{encode_content, encode_entry};
+use encode::node::{Node, encode};
 use flash::interface::Flash;
 use flash::place::Place;
 use flash::refusal::Refusal;
+use nodes::image::Image;
 use nodes::reader::Reader;
-use nodes::record::{Content, Entry};
 use std::io;
 use survey::read_block;
 
@@ -70,17 +70,12 @@ impl<'a, F: Flash + Drop> Task<'a, F> {
         self.lay("marker", made)
     }
 
-    pub(crate) fn lay_entry(&mut self, what: &'static str, entry: &Entry<'_>) -> io::Result<()> {
-        let made = encode_entry(entry, &mut self.bytes);
-        self.lay(what, made)
-    }
-
-    pub(crate) fn lay_content(
+    pub(crate) fn lay_node<const WORDS: usize, const MOST: usize, N: Node<WORDS, MOST>>(
         &mut self,
         what: &'static str,
-        content: &Content<'_>,
+        node: &N,
     ) -> io::Result<()> {
-        let made = encode_content(content, &mut self.bytes);
+        let made = encode(node, &mut self.bytes);
         self.lay(what, made)
     }
 
@@ -122,11 +117,10 @@ impl<'a, F: Flash + Drop> Task<'a, F> {
         }
     }
 
-    // Prints each item that stands on the block, as it was read, and answers how far into the block they begin.
-    fn show_items(&self) -> io::Result<usize> {
+    // Prints each item of the block with its place, and answers how far into the block they begin.
+    fn show_items(&self, image: Image<'_>) -> io::Result<usize> {
         let mut reached: usize = 0;
-        let mut reader = Reader::new(WORK, &self.bytes, &self.readable);
-        while let Some(found) = reader.next() {
+        for found in Reader::new(WORK, image) {
             let Place { block, offset } = found.place;
             let item = Shown(found.item);
             println!(self.rt; "  block {block}, offset {offset}: {item}")?;
@@ -138,7 +132,10 @@ impl<'a, F: Flash + Drop> Task<'a, F> {
     // Reads the block, and prints what stands on it, and what was asked for and does not stand.
     pub(crate) fn survey(&mut self) -> io::Result<()> {
         self.read()?;
-        let reached = self.show_items()?;
+        let reached = self.show_items(Image {
+            bytes: &self.bytes,
+            readable: &self.readable,
+        })?;
         let asked = self.log.asked.iter();
         for lost in asked.filter(|asked| asked.offset >= reached) {
             let what = lost.what;

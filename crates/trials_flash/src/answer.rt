@@ -64,7 +64,7 @@ impl Answer {
         match self {
             Answer::NotUnderstood => (255, [0; 4]),
             Answer::Called(Ok(()), values) => (0, values.row()),
-            Answer::Called(Err(refusal), values) => (refusal.number(), values.row()),
+            Answer::Called(Err(refusal), values) => (u8::from(refusal), values.row()),
         }
     }
 

@@ -26,11 +26,11 @@ mod command;
 
 use answer::{Answer, Values};
 use command::{Card, Command, fill, parse};
+use devices::nand::Nand;
 use devices::nor::Nor;
+use devices::pages::NandPage;
 use flash::interface::Flash;
 use layers::buffer::WriteBuffer;
-use devices::nand::Nand;
-use devices::pages::NandPage;
 use std::io;
 
 // The most bytes of memory.

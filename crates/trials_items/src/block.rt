@@ -3,7 +3,8 @@ use crate::answer::Answer;
 use crate::command::Command;
 use crate::walk::walk;
 use encode::filler::{filling, marker};
-use encode::node::{encode_content, encode_entry};
+use encode::node::encode;
+use nodes::image::Image;
 use trials::digest::digest_of;
 
 // Its bytes, and a flag for each page of 4 bytes, set if it can be read.
@@ -71,7 +72,10 @@ impl Block {
     fn walk(&self, length: usize, flags: usize) -> Answer {
         let length = length.min(self.bytes.len());
         let flags = flags.min(self.readable.len());
-        walk(&self.bytes[..length], &self.readable[..flags])
+        walk(Image {
+            bytes: &self.bytes[..length],
+            readable: &self.readable[..flags],
+        })
     }
 
     fn sum(&self, n: usize) -> Answer {
@@ -88,11 +92,11 @@ impl Block {
             Command::Lose { page } => self.lose(page),
             Command::Marker => return Some(laid(marker(&mut self.bytes), &self.bytes)),
             Command::Entry(entry) => {
-                let size = encode_entry(&entry, &mut self.bytes[12..]);
+                let size = encode(&entry, &mut self.bytes[12..]);
                 return Some(laid(size, &self.bytes));
             }
             Command::Content(content) => {
-                let size = encode_content(&content, &mut self.bytes[12..]);
+                let size = encode(&content, &mut self.bytes[12..]);
                 return Some(laid(size, &self.bytes));
             }
             Command::Filling { end, batch, room } => return Some(self.fill(end, batch, room)),

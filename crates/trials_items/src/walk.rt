@@ -1,6 +1,7 @@
 // Walks the block, and judges what it meets.
 use crate::answer::Answer;
 use kinds::Kind;
+use nodes::image::Image;
 use nodes::item::Item;
 use nodes::reader::Reader;
 use nodes::record::{Content, Entry};
@@ -47,34 +48,31 @@ fn with_content(all: usize, content: &Content<'_>) -> usize {
 }
 
 // A kind and the length of its item taken into a number.
-fn with_kind(all: usize, kind: u16, length: usize) -> usize {
-    all.with(usize::from(kind)).with(length)
+fn with_kind(all: usize, kind: impl Into<u16>, length: usize) -> usize {
+    all.with(usize::from(kind.into())).with(length)
 }
 
 // Takes the kind, the length and the fields of an item into a number.
 fn with_item(all: usize, item: &Item<'_>) -> usize {
     match item {
         Item::Zero => all.with(4),
-        Item::Marker { length } => with_kind(all, Kind::Marker.value(), *length),
-        Item::Padding { length } => with_kind(all, Kind::Padding.value(), *length),
+        Item::Marker { length } => with_kind(all, Kind::Marker, *length),
+        Item::Padding { length } => with_kind(all, Kind::Padding, *length),
         Item::Unknown { kind, length } => with_kind(all, *kind, *length),
         Item::Entry { bytes, entry } => {
-            with_entry(with_kind(all, Kind::Entry.value(), bytes.len()), entry)
+            with_entry(with_kind(all, Kind::Entry, bytes.len()), entry)
         }
         Item::Content { bytes, content } => {
-            with_content(with_kind(all, Kind::Content.value(), bytes.len()), content)
+            with_content(with_kind(all, Kind::Content, bytes.len()), content)
         }
     }
 }
 
 // What is met on a block, and a number for all items.
-pub(crate) fn walk<'a>(bytes: &'a [u8], readable: &'a [bool]) -> Answer {
-    let mut met = Met::default();
-    let mut digest = 1;
-    let mut reader = Reader::new(0, bytes, readable);
-    while let Some(found) = reader.next() {
-        met = met.with(&found);
-        digest = with_item(digest, &found.item);
-    }
+pub(crate) fn walk(image: Image<'_>) -> Answer {
+    let start = (Met::default(), 1);
+    let (met, digest) = Reader::new(0, image).fold(start, |(met, digest), found| {
+        (met.with(&found), with_item(digest, &found.item))
+    });
     Answer::Walked { met, digest }
 }

@@ -59,7 +59,7 @@ fn turn(rt: &HostRuntime, random: &mut Random, seen: Seen) -> anyhow::Result<See
         0 => Case("random", base, FIRST, &[], &[one]).image(rt.alloc())?,
         _ => Case("random", base, FIRST, &[one, two], &[]).image(rt.alloc())?,
     };
-    let met = tally(&block, &[true; BLOCK / 4]);
+    let met = tally(&block);
     let number = offence_number(met);
     Ok(Seen {
         all: seen

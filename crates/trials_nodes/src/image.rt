@@ -2,7 +2,7 @@
 use crate::case::{Base, Case, Word};
 use crc32::sum_of;
 use encode::filler::marker;
-use encode::node::{encode_content, encode_entry};
+use encode::node::encode;
 use nodes::record::{Content, Entry};
 use std::alloc::{AllocError, Global};
 
@@ -82,10 +82,10 @@ fn content(dsize: u32, compr: u8, payload: &'static [u8]) -> Content<'static> {
 fn make(base: Base, out: &mut [u8]) -> Option<usize> {
     match base {
         Base::Blank | Base::Bare => None,
-        Base::File => encode_entry(&entry(2, 8), out),
-        Base::Removal => encode_entry(&entry(0, 0), out),
-        Base::Plain => encode_content(&content(5, 0, b"hello"), out),
-        Base::Hole => encode_content(&content(300, 1, b""), out),
+        Base::File => encode(&entry(2, 8), out),
+        Base::Removal => encode(&entry(0, 0), out),
+        Base::Plain => encode(&content(5, 0, b"hello"), out),
+        Base::Hole => encode(&content(300, 1, b""), out),
     }
 }
 

@@ -1,23 +1,23 @@
 // Walks the block of a case, and prints what the walk met.
 use crate::case::Case;
 use crate::image::BLOCK;
+use nodes::image::Image;
 use nodes::reader::Reader;
 use trials::digest::digest_of;
 use trials::met::Met;
 
-// Walks a block to its end.
-pub(crate) fn tally<'a>(bytes: &'a [u8], readable: &'a [bool]) -> Met {
-    let mut met = Met::default();
-    let mut reader = Reader::new(0, bytes, readable);
-    while let Some(found) = reader.next() {
-        met = met.with(&found);
-    }
-    met
+// Walks a block of which all can be read to its end.
+pub(crate) fn tally(bytes: &[u8]) -> Met {
+    let image = Image {
+        bytes,
+        readable: &[true; BLOCK / 4],
+    };
+    Reader::new(0, image).fold(Met::default(), |met, found| met.with(&found))
 }
 
 // The number of the first offence, 0 where there is none.
 pub(crate) fn offence_number(met: Met) -> u8 {
-    met.offence.map_or(0, |refusal| refusal.number())
+    met.offence.map_or(0, u8::from)
 }
 
 // Tries a case, and prints a digest of its block, as the model has to speak of the same bytes, and what the walk met.
@@ -25,7 +25,7 @@ fn try_case(rt: &HostRuntime, case: &Case<'_>) -> anyhow::Result<()> {
     let Case(label, ..) = case;
     let block = case.image(rt.alloc())?;
     let digest: u32 = digest_of(&block);
-    let met = tally(&block, &[true; BLOCK / 4]);
+    let met = tally(&block);
     let Met { items, last, .. } = met;
     let offence = offence_number(met);
     println!(rt; "{label}: block {digest:08x}, items {items}, last at {last}, offence {offence}")?;

@@ -47,10 +47,7 @@ impl fmt::Display for Answer {
     fn fmt<W: fmt::Write>(&self, f: &mut fmt::Formatter<W>) -> fmt::Result {
         match self.0 {
             Ok(value) => write!(f, "done, {value}"),
-            Err(refusal) => {
-                let number = refusal.number();
-                write!(f, "refused {number}")
-            }
+            Err(refusal) => write!(f, "refused {}", u8::from(refusal)),
         }
     }
 }

@@ -10,7 +10,7 @@ use trials::random::Random;
 fn code(Answer(answer): Answer) -> u32 {
     match answer {
         Ok(value) => (value % 65536) as u32,
-        Err(refusal) => 65536 + u32::from(refusal.number()),
+        Err(refusal) => 65536 + u32::from(u8::from(refusal)),
     }
 }
 

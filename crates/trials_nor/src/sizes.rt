@@ -15,7 +15,7 @@ fn try_size(rt: &HostRuntime, n: usize) -> anyhow::Result<()> {
             println!(rt; "{blocks} blocks")?;
         }
         Err((refusal, back)) => {
-            let number = refusal.number();
+            let number = u8::from(refusal);
             let back = back.len();
             println!(rt; "refused {number}, {back} bytes back")?;
         }

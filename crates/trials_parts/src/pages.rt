@@ -1,8 +1,9 @@
 // Tries a block of which one page, or all from one on, cannot be read: how many items are then met, and which numbers the
 // reader hands out of each item of the block.
 use encode::filler::{filling, marker};
-use encode::node::{encode_content, encode_entry};
+use encode::node::encode;
 use kinds::Kind;
+use nodes::image::Image;
 use nodes::item::Item;
 use nodes::reader::Reader;
 use nodes::record::{Content, Entry};
@@ -36,6 +37,11 @@ fn short(length: usize) -> u32 {
     (length % 65536) as u32
 }
 
+// The value of a kind on the flash.
+fn value(kind: Kind) -> u32 {
+    u32::from(u16::from(kind))
+}
+
 // A row of the numbers; those that are not there are 0.
 fn row(numbers: &[u32]) -> [u32; 11] {
     let mut all = [0; 11];
@@ -49,11 +55,11 @@ fn row(numbers: &[u32]) -> [u32; 11] {
 fn numbers(item: &Item<'_>) -> [u32; 11] {
     match item {
         Item::Zero => row(&[]),
-        Item::Marker { length } => row(&[u32::from(Kind::Marker.value()), short(*length)]),
-        Item::Padding { length } => row(&[u32::from(Kind::Padding.value()), short(*length)]),
+        Item::Marker { length } => row(&[value(Kind::Marker), short(*length)]),
+        Item::Padding { length } => row(&[value(Kind::Padding), short(*length)]),
         Item::Unknown { kind, length } => row(&[u32::from(*kind), short(*length)]),
         Item::Entry { bytes, entry: e } => row(&[
-            u32::from(Kind::Entry.value()),
+            value(Kind::Entry),
             short(bytes.len()),
             e.pino,
             e.version,
@@ -63,7 +69,7 @@ fn numbers(item: &Item<'_>) -> [u32; 11] {
             crc32::sum_of(e.name),
         ]),
         Item::Content { bytes, content: c } => row(&[
-            u32::from(Kind::Content.value()),
+            value(Kind::Content),
             short(bytes.len()),
             c.ino,
             c.version,
@@ -79,9 +85,8 @@ fn numbers(item: &Item<'_>) -> [u32; 11] {
 }
 
 // Prints the numbers of each item.
-fn show_items<'a>(rt: &HostRuntime, block: &'a [u8], readable: &'a [bool]) -> anyhow::Result<()> {
-    let mut reader = Reader::new(0, block, readable);
-    while let Some(found) = reader.next() {
+fn show_items(rt: &HostRuntime, image: Image<'_>) -> anyhow::Result<()> {
+    for found in Reader::new(0, image) {
         let at = found.place.offset;
         let all = numbers(&found.item);
         println!(rt; "at {at}: {all:?}")?;
@@ -90,13 +95,8 @@ fn show_items<'a>(rt: &HostRuntime, block: &'a [u8], readable: &'a [bool]) -> an
 }
 
 // How many items a walk meets.
-fn count<'a>(block: &'a [u8], readable: &'a [bool]) -> usize {
-    let mut items: usize = 0;
-    let mut reader = Reader::new(0, block, readable);
-    while let Some(_found) = reader.next() {
-        items = items.saturating_add(1);
-    }
-    items
+fn count(bytes: &[u8], readable: &[bool]) -> usize {
+    Reader::new(0, Image { bytes, readable }).count()
 }
 
 // For each page: how many items are met if it alone cannot be read.
@@ -126,9 +126,9 @@ fn with_few(rt: &HostRuntime, block: &[u8]) -> anyhow::Result<()> {
 // Lays the marker, an entry, padding, a content and a zero word into a block.
 fn lay_items(block: &mut [u8; BLOCK]) {
     let _ = marker(block);
-    let _ = encode_entry(&ENTRY, &mut block[12..]);
+    let _ = encode(&ENTRY, &mut block[12..]);
     let _ = filling(&mut block[56..], 56, 72);
-    let _ = encode_content(&CONTENT, &mut block[72..]);
+    let _ = encode(&CONTENT, &mut block[72..]);
     block[148..152].fill(0);
 }
 
@@ -136,7 +136,13 @@ pub(crate) fn try_pages(rt: &HostRuntime) -> anyhow::Result<()> {
     println!(rt; "pages")?;
     let mut block = [0xff; BLOCK];
     lay_items(&mut block);
-    show_items(rt, &block, &[true; BLOCK / 4])?;
+    show_items(
+        rt,
+        Image {
+            bytes: &block,
+            readable: &[true; BLOCK / 4],
+        },
+    )?;
     without_one(rt, &block)?;
     with_few(rt, &block)
 }
