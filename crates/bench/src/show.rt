@@ -1,116 +1,74 @@
-// How answers and items are printed.
+// How items and shapes are shown.
+use bench_parts::show::text;
 use flash::place::Shape;
-use flash::refusal::Refusal;
 use nodes::item::Item;
-use nodes::reader::Found;
 use nodes::record::{Content, Entry};
+use std::fmt;
 
-// What a refusal says in words.
-fn cause(refusal: Refusal) -> &'static str {
-    match refusal {
-        Refusal::Path => "not a path",
-        Refusal::TooLong => "too long",
-        Refusal::Shape => "wrong shape",
-        Refusal::Memory => "not 4 to 16 whole blocks of memory",
-        Refusal::Buffer => "buffer too small",
-        Refusal::Kind => "unknown kind",
-        Refusal::Field => "bad field",
-        Refusal::Conflict => "two nodes of one version differ",
-        Refusal::Outside => "outside the flash",
-        Refusal::NotPages => "not whole pages",
-        Refusal::BelowMark => "below the mark",
-        Refusal::OtherHeld => "another block has bytes held",
-        Refusal::NoPower => "no power",
-        Refusal::Absent => "absent",
-        Refusal::Exists => "exists",
-        Refusal::WrongKind => "wrong kind",
-        Refusal::NotEmpty => "not empty",
-        Refusal::NoSpace => "no space",
-        Refusal::Exhausted => "numbers exhausted",
-        Refusal::NoFull => "no full block",
-        Refusal::Unreadable => "unreadable",
-    }
-}
+// An item or a shape with its fields.
+#[derive(Clone, Copy)]
+pub(crate) struct Shown<T>(pub(crate) T);
 
-pub(crate) fn show_answer(rt: &HostRuntime, answer: Result<(), Refusal>) -> anyhow::Result<()> {
-    match answer {
-        Ok(()) => println!(rt; "done")?,
-        Err(refusal) => {
-            let number = refusal.number();
-            let why = cause(refusal);
-            println!(rt; "refused as {number}, {why}")?;
-        }
-    }
-    Ok(())
-}
-
-// Bytes as text, where they are text.
-fn text(bytes: &[u8]) -> &str {
-    match std::str::from_utf8(bytes) {
-        Ok(text) => text,
-        Err(_) => "(no text)",
-    }
-}
-
-fn show_entry(rt: &HostRuntime, entry: &Entry<'_>) -> anyhow::Result<()> {
-    let pino = entry.pino;
-    let version = entry.version;
-    let ino = entry.ino;
-    let dtype = entry.dtype;
-    let name = text(entry.name);
-    println!(rt;
+fn write_entry<W: fmt::Write>(f: &mut fmt::Formatter<W>, entry: Entry<'_>) -> fmt::Result {
+    let Entry {
+        pino,
+        version,
+        ino,
+        dtype,
+        name,
+    } = entry;
+    let name = text(name);
+    write!(
+        f,
         "entry of directory {pino}, version {version}: \"{name}\" is number {ino}, type {dtype}"
-    )?;
-    Ok(())
+    )
 }
 
-fn show_content(rt: &HostRuntime, content: &Content<'_>) -> anyhow::Result<()> {
-    let ino = content.ino;
-    let version = content.version;
-    let isize = content.isize;
-    let offset = content.offset;
-    let dsize = content.dsize;
-    println!(rt;
+fn write_content<W: fmt::Write>(f: &mut fmt::Formatter<W>, content: Content<'_>) -> fmt::Result {
+    let Content {
+        ino,
+        version,
+        isize,
+        offset,
+        dsize,
+        payload,
+        ..
+    } = content;
+    write!(
+        f,
         "content of number {ino}, version {version}: length {isize}, {dsize} bytes at {offset}"
     )?;
-    if dsize > 0 {
-        let bytes = text(content.payload);
-        println!(rt; "    {bytes:?}")?;
+    if dsize == 0 {
+        return Ok(());
     }
-    Ok(())
+    let bytes = text(payload);
+    write!(f, "\n    {bytes:?}")
 }
 
-// An item with its place.
-pub(crate) fn show_item(rt: &HostRuntime, found: &Found<'_>) -> anyhow::Result<()> {
-    let block = found.place.block;
-    let offset = found.place.offset;
-    print!(rt; "  block {block}, offset {offset}: ")?;
-    match found.item {
-        Item::Zero => println!(rt; "zero word")?,
-        Item::Marker { length } => println!(rt; "marker of {length} bytes")?,
-        Item::Padding { length } => println!(rt; "padding of {length} bytes")?,
-        Item::Unknown { kind, length } => println!(rt; "kind {kind:#06x} of {length} bytes")?,
-        Item::Entry { entry, .. } => show_entry(rt, &entry)?,
-        Item::Content { content, .. } => show_content(rt, &content)?,
+impl fmt::Display for Shown<Item<'_>> {
+    fn fmt<W: fmt::Write>(&self, f: &mut fmt::Formatter<W>) -> fmt::Result {
+        match self.0 {
+            Item::Zero => write!(f, "zero word"),
+            Item::Marker { length } => write!(f, "marker of {length} bytes"),
+            Item::Padding { length } => write!(f, "padding of {length} bytes"),
+            Item::Unknown { kind, length } => write!(f, "kind {kind:#06x} of {length} bytes"),
+            Item::Entry { entry, .. } => write_entry(f, entry),
+            Item::Content { content, .. } => write_content(f, content),
+        }
     }
-    Ok(())
 }
 
-// How large a flash is.
-pub(crate) fn show_shape(rt: &HostRuntime, shape: Shape) -> anyhow::Result<()> {
-    let blocks = shape.blocks;
-    let size = shape.size;
-    let page = shape.page;
-    let batch = shape.batch;
-    println!(rt; "{blocks} blocks of {size} bytes, pages of {page}, batches of {batch}")?;
-    Ok(())
-}
-
-// Where the next program of a block may begin.
-pub(crate) fn show_mark(rt: &HostRuntime, mark: Result<usize, Refusal>) -> anyhow::Result<()> {
-    match mark {
-        Ok(offset) => println!(rt; "offset {offset}")?,
-        Err(refusal) => show_answer(rt, Err(refusal))?,
+impl fmt::Display for Shown<Shape> {
+    fn fmt<W: fmt::Write>(&self, f: &mut fmt::Formatter<W>) -> fmt::Result {
+        let Shape {
+            blocks,
+            size,
+            page,
+            batch,
+        } = self.0;
+        write!(
+            f,
+            "{blocks} blocks of {size} bytes, pages of {page}, batches of {batch}"
+        )
     }
-    Ok(())
 }

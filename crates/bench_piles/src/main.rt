@@ -1,75 +1,80 @@
 // The bench: one task on a NOR card, and on a write buffer over a NAND card, both in memory, with losses of power in it. It
 // prints what was asked, what was answered, what stands on the block and what was lost. `story` has the steps of the task,
-// `steps` carries them out on any flash, `desk` keeps and prints; the work is done by the libraries.
+// `task` carries them out on any flash and prints; the work is done by the libraries.
 #![tactic(auto)]
 
-mod desk;
 mod show;
-mod steps;
 mod story;
+mod task;
 
-use desk::Desk;
-use devices::nor::Nor;
-use flash::interface::Flash;
-use layers::buffer::WriteBuffer;
+use bench_parts::show::Answer;
 use devices::nand::Nand;
+use devices::nor::Nor;
 use devices::pages::NandPage;
-use show::of_shape;
+use flash::interface::Flash;
+use flash::refusal::Refusal;
+use layers::buffer::WriteBuffer;
 use std::io;
-use steps::{Step, perform_all};
-use story::{BEGINNING, CUT_IN_PAGE, CUT_IN_WORD, CUT_OFF_PAGE, END, UNSYNCED};
+use story::{Loss, perform};
+use task::Task;
 
 // The bytes of a card of 8 blocks.
 const CARD: usize = 8 * 4096;
 
-// The task on any flash, with a loss in it.
-fn task<F: Flash>(flash: &mut F, desk: &mut Desk, title: &str, loss: &[Step]) {
-    desk.clear();
-    desk.show(title, &of_shape(flash.shape()));
-    perform_all(flash, desk, &BEGINNING);
-    perform_all(flash, desk, loss);
-    perform_all(flash, desk, &END);
+// Prints that a flash could not be put together.
+fn refused(rt: &HostRuntime, what: &str, refusal: Refusal) -> io::Result<()> {
+    let answer = Answer(Err(refusal));
+    println!(rt; "{what}: {answer}")
 }
 
-fn on_nor(memory: &mut [u8], desk: &mut Desk) {
-    match Nor::new(memory) {
-        Ok(mut card) => task(&mut card, desk, "NOR, power cut in a word: ", &CUT_IN_WORD),
-        Err((refusal, _)) => desk.say("NOR", Err(refusal)),
+fn on_nor(rt: &HostRuntime, memory: &mut [u8]) -> io::Result<()> {
+    let card = match Nor::new(memory) {
+        Ok(card) => card,
+        Err((refusal, _)) => return refused(rt, "NOR", refusal),
+    };
+    let in_word = Loss::Cut {
+        what: "arm, 9 steps succeed and the next takes the fault 0x10",
+        steps: 9,
+        fault: 0x10,
+    };
+    perform(
+        &mut Task::new(rt, card),
+        "NOR, power cut in a word",
+        in_word,
+    )
+}
+
+fn on_pages<F: Flash + Drop>(rt: &HostRuntime, card: F) -> io::Result<()> {
+    let in_page = Loss::Cut {
+        what: "arm, the next step takes the fault 0x10",
+        steps: 0,
+        fault: 0x10,
+    };
+    let off_page = Loss::Cut {
+        what: "arm, the next step takes the fault 0x11, which is odd",
+        steps: 0,
+        fault: 0x11,
+    };
+    let mut task = Task::new(rt, card);
+    for (title, loss) in [
+        ("restart while bytes are held", Loss::Held),
+        ("power cut in a page", in_page),
+        ("power cut that makes a page unreadable", off_page),
+    ] {
+        print!(rt; "\nwrite buffer on NAND, ")?;
+        perform(&mut task, title, loss)?;
     }
+    Ok(())
 }
 
-fn on_pages<F: Flash>(card: &mut F, desk: &mut Desk) {
-    task(
-        card,
-        desk,
-        "\nwrite buffer on NAND, restart while bytes are held: ",
-        &UNSYNCED,
-    );
-    task(
-        card,
-        desk,
-        "\nwrite buffer on NAND, power cut in a page: ",
-        &CUT_IN_PAGE,
-    );
-    task(
-        card,
-        desk,
-        "\nwrite buffer on NAND, power cut that makes a page unreadable: ",
-        &CUT_OFF_PAGE,
-    );
-}
-
-fn on_buffer<F: Flash + Drop>(below: F, desk: &mut Desk) {
-    match WriteBuffer::new(below) {
-        Ok(mut card) => on_pages(&mut card, desk),
-        Err((refusal, _)) => desk.say("write buffer", Err(refusal)),
-    }
-}
-
-fn on_nand(memory: &mut [u8], desk: &mut Desk) {
-    match Nand::new(memory, NandPage::P512) {
-        Ok(chip) => on_buffer(chip, desk),
-        Err((refusal, _)) => desk.say("NAND", Err(refusal)),
+fn on_nand(rt: &HostRuntime, memory: &mut [u8]) -> io::Result<()> {
+    let chip = match Nand::new(memory, NandPage::P512) {
+        Ok(chip) => chip,
+        Err((refusal, _)) => return refused(rt, "NAND", refusal),
+    };
+    match WriteBuffer::new(chip) {
+        Ok(card) => on_pages(rt, card),
+        Err((refusal, _)) => refused(rt, "write buffer", refusal),
     }
 }
 
@@ -77,11 +82,9 @@ fn run(rt: &HostRuntime) -> io::Result<()> {
     if !examples::self_test() {
         return rt.println("this machine does not compute as proved");
     }
-    let mut memory = vec![in rt.alloc(); 0u8; CARD]?;
-    let mut desk = Desk::new(rt)?;
-    on_nor(&mut memory, &mut desk);
-    on_nand(&mut memory, &mut desk);
-    desk.ends()
+    let mut memory = vec![in rt.alloc(); 0; CARD]?;
+    on_nor(rt, &mut memory)?;
+    on_nand(rt, &mut memory)
 }
 
 fn main(rt: HostRuntime) -> io::Result<()> {

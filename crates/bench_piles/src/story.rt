@@ -1,6 +1,9 @@
 // What the task does on a block: what it lays, and where the power goes.
-use crate::steps::{Piece, Step};
+use crate::task::Task;
+use bench_parts::pieces::{content, entry};
+use flash::interface::Flash;
 use kinds::FileKind;
+use std::io;
 
 // The numbers of the root, of a directory and of a file.
 const ROOT: u32 = 1;
@@ -9,109 +12,68 @@ const TOP: u32 = 2;
 
 const TRACK: u32 = 3;
 
+// Where the power goes.
+#[derive(Clone, Copy)]
+pub(crate) enum Loss {
+    // by a restart, while bytes are held
+    Held,
+    // in the step after so many, with a fault
+    Cut {
+        what: &'static str,
+        steps: usize,
+        fault: u8,
+    },
+}
+
 // A directory, a file in it, and what the file holds.
-pub(crate) static BEGINNING: [Step; 8] = [
-    Step::Erase,
-    Step::Lay {
-        what: "marker",
-        piece: Piece::Marker,
-    },
-    Step::Lay {
-        what: "directory 2",
-        piece: Piece::New {
-            ino: TOP,
-            kind: FileKind::Directory,
-        },
-    },
-    Step::Lay {
-        what: "its name, /top",
-        piece: Piece::Name {
-            pino: ROOT,
-            ino: TOP,
-            kind: FileKind::Directory,
-            name: b"top",
-        },
-    },
-    Step::Lay {
-        what: "file 3",
-        piece: Piece::New {
-            ino: TRACK,
-            kind: FileKind::File,
-        },
-    },
-    Step::Lay {
-        what: "its name, /top/track-7",
-        piece: Piece::Name {
-            pino: TOP,
-            ino: TRACK,
-            kind: FileKind::File,
-            name: b"track-7",
-        },
-    },
-    Step::Lay {
-        what: "27 bytes of it",
-        piece: Piece::Data {
-            ino: TRACK,
-            version: 2,
-            offset: 0,
-            text: b"net GND 100,200 to 100,900\n",
-        },
-    },
-    Step::Sync,
-];
+fn fill<F: Flash + Drop>(task: &mut Task<'_, F>) -> io::Result<()> {
+    let dir = FileKind::Directory;
+    let file = FileKind::File;
+    task.erase()?;
+    task.lay_marker()?;
+    task.lay_node("directory 2", &content(TOP, 1, dir, 0, b""))?;
+    task.lay_node("its name, /top", &entry(ROOT, TOP, dir, b"top"))?;
+    task.lay_node("file 3", &content(TRACK, 1, file, 0, b""))?;
+    let name = entry(TOP, TRACK, file, b"track-7");
+    task.lay_node("its name, /top/track-7", &name)?;
+    let text = b"net GND 100,200 to 100,900\n";
+    task.lay_node("27 bytes of it", &content(TRACK, 2, file, 0, text))?;
+    task.sync()
+}
 
 // More of the file.
-const MORE: Step = Step::Lay {
-    what: "27 bytes more",
-    piece: Piece::Data {
-        ino: TRACK,
-        version: 3,
-        offset: 27,
-        text: b"net VCC 300,200 to 300,900\n",
-    },
-};
+fn more<F: Flash + Drop>(task: &mut Task<'_, F>) -> io::Result<()> {
+    let text = b"net VCC 300,200 to 300,900\n";
+    let content = content(TRACK, 3, FileKind::File, 27, text);
+    task.lay_node("27 bytes more", &content)
+}
 
-// The power goes while it is held.
-pub(crate) static UNSYNCED: [Step; 2] = [MORE, Step::Survey];
+fn lose<F: Flash + Drop>(task: &mut Task<'_, F>, loss: Loss) -> io::Result<()> {
+    match loss {
+        Loss::Held => {
+            more(task)?;
+            task.survey()
+        }
+        Loss::Cut { what, steps, fault } => {
+            task.arm(what, steps, fault)?;
+            more(task)?;
+            task.sync()?;
+            task.erase()?;
+            task.mark()
+        }
+    }
+}
 
-// The power goes in the tenth word of it.
-pub(crate) static CUT_IN_WORD: [Step; 5] = [
-    Step::Arm {
-        what: "arm, 9 steps succeed and the next takes the fault 0x10",
-        steps: 9,
-        fault: 0x10,
-    },
-    MORE,
-    Step::Sync,
-    Step::Erase,
-    Step::Mark,
-];
-
-// The power goes in its page.
-pub(crate) static CUT_IN_PAGE: [Step; 5] = [
-    Step::Arm {
-        what: "arm, the next step takes the fault 0x10",
-        steps: 0,
-        fault: 0x10,
-    },
-    MORE,
-    Step::Sync,
-    Step::Erase,
-    Step::Mark,
-];
-
-// The same with an odd fault, after which the page cannot be read.
-pub(crate) static CUT_OFF_PAGE: [Step; 5] = [
-    Step::Arm {
-        what: "arm, the next step takes the fault 0x11, which is odd",
-        steps: 0,
-        fault: 0x11,
-    },
-    MORE,
-    Step::Sync,
-    Step::Erase,
-    Step::Mark,
-];
-
-// What is left after it.
-pub(crate) static END: [Step; 3] = [Step::Restart, Step::Mark, Step::Survey];
+// The task on any flash, with a loss in it.
+pub(crate) fn perform<F: Flash + Drop>(
+    task: &mut Task<'_, F>,
+    title: &str,
+    loss: Loss,
+) -> io::Result<()> {
+    task.begin(title)?;
+    fill(task)?;
+    lose(task, loss)?;
+    task.restart()?;
+    task.mark()?;
+    task.survey()
+}

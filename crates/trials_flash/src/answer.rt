@@ -1,66 +1,89 @@
 // What a line of the script answers.
 use flash::place::Shape;
 use flash::refusal::Refusal;
+use std::fmt;
+use trials::digest::Digest;
 
-// The number of the refusal, 0 where there is none, and other numbers; those that a call does not answer are 0.
+// What comes back from a call.
 #[derive(Clone, Copy)]
-pub(crate) struct Answer {
-    pub(crate) refusal: u8,
-    pub(crate) numbers: [usize; 4],
+pub(crate) enum Values {
+    Nothing,
+    Number(usize),
+    // of a buffer or of memory
+    Bytes { length: usize, sum: u32 },
+    Shape(Shape),
+    // of the eighths of a block: a number for what they hold, and a bit for each that can be read
+    Eighths { all: usize, readable: usize },
 }
 
-// The answer of a line that asks for no call, or for no flash.
-pub(crate) const NOT_UNDERSTOOD: Answer = Answer {
-    refusal: 255,
-    numbers: [0; 4],
-};
+#[derive(Clone, Copy)]
+pub(crate) enum Answer {
+    // the line asks for no call, or for no flash
+    NotUnderstood,
+    Called(Result<(), Refusal>, Values),
+}
 
-pub(crate) fn done(answer: Result<(), Refusal>) -> Answer {
-    let refusal = match answer {
-        Ok(()) => 0,
-        Err(refusal) => refusal.number(),
-    };
-    Answer {
-        refusal,
-        numbers: [0; 4],
+impl Values {
+    pub(crate) fn of_bytes(bytes: &[u8]) -> Values {
+        Values::Bytes {
+            length: bytes.len(),
+            sum: crc32::sum_of(bytes),
+        }
+    }
+
+    // The values as a row; those that a call does not answer are 0.
+    fn row(self) -> [usize; 4] {
+        match self {
+            Values::Nothing => [0; 4],
+            Values::Number(n) => [n, 0, 0, 0],
+            Values::Bytes { length, sum } => [length, sum as usize, 0, 0],
+            Values::Shape(shape) => [shape.blocks, shape.size, shape.page, shape.batch],
+            Values::Eighths { all, readable } => [all, readable, 0, 0],
+        }
     }
 }
 
-pub(crate) fn number(answer: Result<usize, Refusal>) -> Answer {
-    match answer {
-        Ok(n) => Answer {
-            refusal: 0,
-            numbers: [n, 0, 0, 0],
-        },
-        Err(refusal) => done(Err(refusal)),
+impl From<Result<(), Refusal>> for Answer {
+    fn from(answer: Result<(), Refusal>) -> Answer {
+        Answer::Called(answer, Values::Nothing)
     }
 }
 
-// With the length and the sum of a buffer or of memory.
-pub(crate) fn with_bytes(answer: Result<(), Refusal>, bytes: &[u8]) -> Answer {
-    Answer {
-        refusal: done(answer).refusal,
-        numbers: [bytes.len(), crc32::sum_of(bytes) as usize, 0, 0],
+impl From<Result<usize, Refusal>> for Answer {
+    fn from(answer: Result<usize, Refusal>) -> Answer {
+        match answer {
+            Ok(n) => Answer::Called(Ok(()), Values::Number(n)),
+            Err(refusal) => Answer::Called(Err(refusal), Values::Nothing),
+        }
     }
 }
 
-pub(crate) fn with_shape(answer: Result<(), Refusal>, shape: Shape) -> Answer {
-    Answer {
-        refusal: done(answer).refusal,
-        numbers: [shape.blocks, shape.size, shape.page, shape.batch],
+impl Answer {
+    // The number of the refusal, 0 where there is none, 255 where nothing was asked; and the values.
+    fn numbers(self) -> (u8, [usize; 4]) {
+        match self {
+            Answer::NotUnderstood => (255, [0; 4]),
+            Answer::Called(Ok(()), values) => (0, values.row()),
+            Answer::Called(Err(refusal), values) => (u8::from(refusal), values.row()),
+        }
+    }
+
+    // Takes the answer into a number for all of them.
+    pub(crate) fn taken_into(self, all: usize) -> usize {
+        let (code, row) = self.numbers();
+        row.into_iter()
+            .fold(all.with(usize::from(code)), usize::with)
     }
 }
 
-// Takes one more number into a number.
-pub(crate) fn mixed(all: usize, n: usize) -> usize {
-    (all ^ n).wrapping_mul(0x100000001b3)
-}
-
-// Takes an answer into a number.
-pub(crate) fn folded(all: usize, answer: Answer) -> usize {
-    let mut all = mixed(all, answer.refusal as usize);
-    for n in answer.numbers {
-        all = mixed(all, n);
+impl fmt::Display for Answer {
+    fn fmt<W: fmt::Write>(&self, f: &mut fmt::Formatter<W>) -> fmt::Result {
+        let word = match self {
+            Answer::NotUnderstood => "not understood",
+            Answer::Called(Ok(()), _) => "done",
+            Answer::Called(Err(_), _) => "refused",
+        };
+        let (code, row) = self.numbers();
+        write!(f, "{word} {code} {row:?}")
     }
-    all
 }

@@ -22,95 +22,125 @@
 
 mod answer;
 mod ask;
-mod line;
+mod command;
 
-use answer::{Answer, NOT_UNDERSTOOD, folded, number, with_bytes, with_shape};
-use ask::ask;
+use answer::{Answer, Values};
+use command::{Card, Command, fill, parse};
+use devices::nand::Nand;
 use devices::nor::Nor;
+use devices::pages::NandPage;
 use flash::interface::Flash;
 use layers::buffer::WriteBuffer;
-use line::{Verb, fill, parse};
-use devices::nand::Nand;
-use devices::pages::NandPage;
 use std::io;
 
 // The most bytes of memory.
 const MOST: usize = 131072;
 
-// Prints a line with its answer.
-fn say(rt: &HostRuntime, line: &str, answer: Answer) -> io::Result<()> {
-    let refusal = answer.refusal;
-    let numbers = answer.numbers;
-    let verdict = match refusal {
-        0 => "done",
-        255 => "not understood",
-        _ => "refused",
-    };
-    println!(rt; "{line}: {verdict} {refusal} {numbers:?}")
+// What a line asks for, if it is understood.
+fn command_of(rt: &HostRuntime, line: &str) -> io::Result<Option<Command>> {
+    let words: Vec<&str> = line.split(' ').collect(rt.alloc())?;
+    Ok(parse(&words))
 }
 
-// Makes the calls of a part.
+// Makes the calls of a part, and prints each line with its answer; of a quiet part only a number for all answers.
 fn try_calls<F: Flash>(rt: &HostRuntime, flash: &mut F, part: &str) -> io::Result<()> {
     let quiet = part.ends_with("quiet");
     let mut all = 1;
-    for text in part.lines() {
-        let answer = ask(flash, parse(text));
-        all = folded(all, answer);
+    for line in part.lines() {
+        let answer = match command_of(rt, line)? {
+            Some(command) => ask::ask(flash, command),
+            None => Answer::NotUnderstood,
+        };
+        all = answer.taken_into(all);
         if !quiet {
-            say(rt, text, answer)?;
+            say(rt, line, answer)?;
         }
     }
     if quiet {
-        return say(rt, "all", number(Ok(all)));
+        return say(rt, "all", Answer::Called(Ok(()), Values::Number(all)));
     }
     Ok(())
+}
+
+fn say(rt: &HostRuntime, line: &str, answer: Answer) -> io::Result<()> {
+    println!(rt; "{line}: {answer}")
 }
 
 // Tries a write buffer over a flash.
 fn try_pile<F: Flash + Drop>(rt: &HostRuntime, below: F, part: &str) -> io::Result<()> {
     match WriteBuffer::new(below) {
         Ok(mut pile) => try_calls(rt, &mut pile, part),
-        Err((refusal, back)) => say(rt, part, with_shape(Err(refusal), back.shape())),
+        Err((refusal, back)) => {
+            let shape = Values::Shape(back.shape());
+            say(rt, part, Answer::Called(Err(refusal), shape))
+        }
     }
 }
 
 // Tries a chip, or a write buffer over it.
-fn try_chip<F: Flash + Drop>(rt: &HostRuntime, mut chip: F, part: &str) -> io::Result<()> {
-    if part.starts_with("pile") {
+fn try_chip<F: Flash + Drop>(
+    rt: &HostRuntime,
+    mut chip: F,
+    buffered: bool,
+    part: &str,
+) -> io::Result<()> {
+    if buffered {
         return try_pile(rt, chip, part);
     }
     try_calls(rt, &mut chip, part)
 }
 
-fn try_nor(rt: &HostRuntime, memory: &mut [u8], part: &str) -> io::Result<()> {
+// One function over what either `new` answers has no proof: a chip of any type beside memory that is handed back.
+fn try_nor(rt: &HostRuntime, memory: &mut [u8], buffered: bool, part: &str) -> io::Result<()> {
     match Nor::new(memory) {
-        Ok(chip) => try_chip(rt, chip, part),
-        Err((refusal, back)) => say(rt, part, with_bytes(Err(refusal), back)),
+        Ok(chip) => try_chip(rt, chip, buffered, part),
+        Err((refusal, back)) => say(
+            rt,
+            part,
+            Answer::Called(Err(refusal), Values::of_bytes(back)),
+        ),
     }
 }
 
-fn try_nand(rt: &HostRuntime, memory: &mut [u8], page: NandPage, part: &str) -> io::Result<()> {
+fn try_nand(
+    rt: &HostRuntime,
+    memory: &mut [u8],
+    page: NandPage,
+    buffered: bool,
+    part: &str,
+) -> io::Result<()> {
     match Nand::new(memory, page) {
-        Ok(chip) => try_chip(rt, chip, part),
-        Err((refusal, back)) => say(rt, part, with_bytes(Err(refusal), back)),
+        Ok(chip) => try_chip(rt, chip, buffered, part),
+        Err((refusal, back)) => say(
+            rt,
+            part,
+            Answer::Called(Err(refusal), Values::of_bytes(back)),
+        ),
+    }
+}
+
+// Tries a chip of these pages.
+fn try_card(rt: &HostRuntime, card: Card, memory: &mut [u8], part: &str) -> io::Result<()> {
+    match card.page {
+        4 => try_nor(rt, memory, card.buffered, part),
+        512 => try_nand(rt, memory, NandPage::P512, card.buffered, part),
+        528 => try_nand(rt, memory, NandPage::P528, card.buffered, part),
+        _ => say(rt, part, Answer::NotUnderstood),
     }
 }
 
 // Tries the flash that the first line of a part asks for.
 fn try_part(rt: &HostRuntime, part: &str) -> io::Result<()> {
-    let line = parse(part.lines().next().unwrap_or(""));
-    let [bytes, bits, page, _] = line.numbers;
-    if bytes > MOST || bits > 255 {
-        return say(rt, part, NOT_UNDERSTOOD);
-    }
+    let Some(Command::Card(card)) = command_of(rt, part.lines().next().unwrap_or(""))? else {
+        return say(rt, part, Answer::NotUnderstood);
+    };
     let mut room = [0; MOST];
-    let memory = &mut room[0..bytes];
-    fill(memory, bits as u8);
-    match (line.verb, page) {
-        (Verb::Chip | Verb::Pile, 4) => try_nor(rt, memory, part),
-        (Verb::Chip | Verb::Pile, 512) => try_nand(rt, memory, NandPage::P512, part),
-        (Verb::Chip | Verb::Pile, 528) => try_nand(rt, memory, NandPage::P528, part),
-        _ => say(rt, part, NOT_UNDERSTOOD),
+    match (room.get_mut(..card.bytes), u8::try_from(card.bits)) {
+        (Some(memory), Ok(bits)) => {
+            fill(memory, bits);
+            try_card(rt, card, memory, part)
+        }
+        _ => say(rt, part, Answer::NotUnderstood),
     }
 }
 

@@ -25,68 +25,39 @@
 // Of twins the one at the lowest place is answered. A part that ends in `quiet` prints nothing but one number for its answers.
 #![tactic(auto)]
 
-mod ask;
-mod line;
+mod answer;
+mod command;
 mod table;
 
-use ask::{Answer, ask, is};
-use index::block::Block;
-use line::{Verb, parse};
-use std::alloc::Global;
+use answer::Answer;
+use command::parse;
 use std::io;
-use table::change;
+use table::Table;
 
-// What was said, without numbers.
-fn only(said: &'static str) -> Answer {
-    Answer {
-        said,
-        numbers: [0; 5],
-    }
+// What a line answers.
+fn answer_of(rt: &HostRuntime, table: &mut Table, line: &str) -> io::Result<Answer> {
+    let words: Vec<&str> = line.split(' ').collect(rt.alloc())?;
+    Ok(match parse(&words) {
+        Some(command) => table.answer(rt.alloc(), command),
+        None => Answer::NotUnderstood,
+    })
 }
 
-fn answer(heap: Global, blocks: &mut Vec<Block>, text: &str) -> Answer {
-    let line = parse(text);
-    match line.verb {
-        Verb::Unknown => only("not understood"),
-        Verb::Block | Verb::State | Verb::Entry | Verb::Content | Verb::Find => {
-            only(if change(heap, blocks, &line) {
-                "done"
-            } else {
-                "not possible"
-            })
-        }
-        _ => ask(blocks.as_slice(), &line),
-    }
-}
-
-// Takes an answer into a number.
-fn folded(all: usize, answer: Answer) -> usize {
-    let mut all = all ^ answer.said.len();
-    for n in answer.numbers {
-        all = (all ^ n).wrapping_mul(0x100000001b3);
-    }
-    all
-}
-
-fn say(rt: &HostRuntime, line: &str, answer: Answer) -> io::Result<()> {
-    let said = answer.said;
-    let numbers = answer.numbers;
-    println!(rt; "{line}: {said} {numbers:?}")
-}
-
+// Tries a part, and prints each line with its answer; of a quiet part only a number for all answers.
 fn try_part(rt: &HostRuntime, part: &str) -> io::Result<()> {
     let quiet = part.ends_with("quiet");
-    let mut blocks = Vec::new(rt.alloc());
+    let mut table = Table::new(rt.alloc());
     let mut all = 1;
-    for text in part.lines() {
-        let answer = answer(rt.alloc(), &mut blocks, text);
-        all = folded(all, answer);
+    for line in part.lines() {
+        let answer = answer_of(rt, &mut table, line)?;
+        all = answer.taken_into(all);
         if !quiet {
-            say(rt, text, answer)?;
+            println!(rt; "{line}: {answer}")?;
         }
     }
     if quiet {
-        return say(rt, "all", is(all));
+        let answer = Answer::Is(all);
+        println!(rt; "all: {answer}")?;
     }
     Ok(())
 }

@@ -1,101 +1,176 @@
-// What changes the table. Each change answers whether it could be made.
-use crate::line::{Line, Verb};
-use flash::place::Place;
+// The table of blocks: what changes it, and what it is asked.
+use crate::answer::Answer;
+use crate::command::{Change, Command, Question};
 use index::block::{Block, State};
-use index::name::Name;
+use index::contents::{file_length, run_at};
+use index::entries::{count_names, entry_of, next_entry};
+use index::name::{Name, NameTooLong};
+use index::numbers::{highest_number, highest_version};
 use index::record::{ContentRecord, EntryRecord};
-use index::spent::find_spent;
-use std::alloc::Global;
+use index::spent::{find_spent, is_missed};
+use std::alloc::{AllocFailed, Global};
+use std::num::TryFromIntError;
 
-fn put_entry(block: &mut Block, line: &Line<'_>) -> bool {
-    let [home, offset, pino, version, ino, dtype, ..] = line.numbers;
-    let Ok(name) = Name::try_from(line.name) else {
-        return false;
-    };
-    let Ok(dtype) = u8::try_from(dtype) else {
-        return false;
-    };
-    let place = Place {
-        block: home as usize,
-        offset: offset as usize,
-    };
-    block
-        .entries
-        .push(EntryRecord {
-            place,
-            length: line.name.len().saturating_add(40),
-            pino,
-            version,
-            ino,
-            dtype,
-            name,
-        })
-        .is_ok()
-}
+// A change that cannot be made.
+#[derive(Clone, Copy)]
+pub(crate) struct NotPossible;
 
-fn put_content(block: &mut Block, line: &Line<'_>) -> bool {
-    let [home, at, ino, version, mode, isize, offset, dsize, hole] = line.numbers;
-    let place = Place {
-        block: home as usize,
-        offset: at as usize,
-    };
-    block
-        .contents
-        .push(ContentRecord {
-            place,
-            length: 68,
-            ino,
-            version,
-            mode,
-            isize,
-            offset,
-            dsize,
-            hole: hole != 0,
-        })
-        .is_ok()
-}
-
-fn set_state(block: &mut Block, number: u32, end: u32) -> bool {
-    block.state = match number {
-        1 => State::Spent,
-        2 => State::Bare,
-        3 => State::Open { end: end as usize },
-        4 => State::Full,
-        _ => return false,
-    };
-    true
-}
-
-fn change_block(block: &mut Block, line: &Line<'_>) -> bool {
-    match line.verb {
-        Verb::Entry => put_entry(block, line),
-        Verb::Content => put_content(block, line),
-        _ => set_state(block, line.numbers[1], line.numbers[2]),
+impl<T: Drop> From<AllocFailed<T>> for NotPossible {
+    fn from(_failed: AllocFailed<T>) -> NotPossible {
+        NotPossible
     }
 }
 
-fn add_block(heap: Global, blocks: &mut Vec<Block>) -> bool {
-    blocks
-        .push(Block {
+impl From<TryFromIntError> for NotPossible {
+    fn from(_too_large: TryFromIntError) -> NotPossible {
+        NotPossible
+    }
+}
+
+impl From<NameTooLong> for NotPossible {
+    fn from(_too_long: NameTooLong) -> NotPossible {
+        NotPossible
+    }
+}
+
+#[derive(Drop)]
+pub(crate) struct Table {
+    blocks: Vec<Block>,
+}
+
+// The state of a number, where an open block has this end.
+fn state_of(number: u32, end: usize) -> Result<State, NotPossible> {
+    match number {
+        1 => Ok(State::Spent),
+        2 => Ok(State::Bare),
+        3 => Ok(State::Open { end }),
+        4 => Ok(State::Full),
+        _ => Err(NotPossible),
+    }
+}
+
+// The number of a state.
+fn number_of(state: State) -> usize {
+    match state {
+        State::Spent => 1,
+        State::Bare => 2,
+        State::Open { .. } => 3,
+        State::Full => 4,
+    }
+}
+
+fn with_bit(bits: usize, bit: bool) -> usize {
+    bits.wrapping_mul(2) | usize::from(bit)
+}
+
+// A bit for each record that says whether it would be missed without its block: block by block, entries first.
+fn missed(blocks: &[Block]) -> usize {
+    let mut bits = 1;
+    for (home, block) in blocks.iter().enumerate() {
+        for entry in &block.entries {
+            bits = with_bit(bits, is_missed(blocks, home, entry));
+        }
+        for content in &block.contents {
+            bits = with_bit(bits, is_missed(blocks, home, content));
+        }
+    }
+    bits
+}
+
+// A digit for the state of each block.
+fn states(blocks: &[Block]) -> usize {
+    blocks.iter().fold(0usize, |digits, block| {
+        digits.wrapping_mul(10).wrapping_add(number_of(block.state))
+    })
+}
+
+impl Table {
+    pub(crate) fn new(heap: Global) -> Table {
+        Table {
+            blocks: Vec::new(heap),
+        }
+    }
+
+    fn block(&mut self, home: usize) -> Result<&mut Block, NotPossible> {
+        self.blocks.get_mut(home).ok_or(NotPossible)
+    }
+
+    fn add_block(&mut self, heap: Global) -> Result<(), NotPossible> {
+        self.blocks.push(Block {
             state: State::Bare,
             entries: Vec::new(heap),
             contents: Vec::new(heap),
-        })
-        .is_ok()
-}
+        })?;
+        Ok(())
+    }
 
-fn find(blocks: &mut [Block]) -> bool {
-    find_spent(blocks);
-    true
-}
+    fn add_entry(&mut self, entry: EntryRecord) -> Result<(), NotPossible> {
+        self.block(entry.place.block)?.entries.push(entry)?;
+        Ok(())
+    }
 
-pub(crate) fn change(heap: Global, blocks: &mut Vec<Block>, line: &Line<'_>) -> bool {
-    match line.verb {
-        Verb::Block => add_block(heap, blocks),
-        Verb::Find => find(blocks.as_mut_slice()),
-        _ => match blocks.as_mut_slice().get_mut(line.numbers[0] as usize) {
-            Some(block) => change_block(block, line),
-            None => false,
-        },
+    fn add_content(&mut self, content: ContentRecord) -> Result<(), NotPossible> {
+        self.block(content.place.block)?.contents.push(content)?;
+        Ok(())
+    }
+
+    fn set_state(&mut self, home: usize, state: State) -> Result<(), NotPossible> {
+        self.block(home)?.state = state;
+        Ok(())
+    }
+
+    // Makes a change, if it is possible.
+    fn change(&mut self, heap: Global, change: Change<'_>) -> Result<(), NotPossible> {
+        match change {
+            Change::Block => self.add_block(heap),
+            Change::State { block, number, end } => self.set_state(block, state_of(number, end)?),
+            Change::Entry {
+                place,
+                pino,
+                version,
+                ino,
+                dtype,
+                name,
+            } => self.add_entry(EntryRecord {
+                place,
+                length: name.len().saturating_add(40),
+                pino,
+                version,
+                ino,
+                dtype: u8::try_from(dtype)?,
+                name: Name::try_from(name.as_bytes())?,
+            }),
+            Change::Content(content) => self.add_content(content),
+            Change::Find => {
+                find_spent(&mut self.blocks);
+                Ok(())
+            }
+        }
+    }
+
+    // The answer to a question.
+    fn ask(&self, question: Question<'_>) -> Answer {
+        let blocks = &self.blocks;
+        match question {
+            Question::Of { pino, name } => Answer::Entry(entry_of(blocks, pino, name.as_bytes())),
+            Question::Next { pino, name } => {
+                Answer::Entry(next_entry(blocks, pino, name.as_bytes()))
+            }
+            Question::Run { ino, at, limit } => Answer::Run(run_at(blocks, ino, at, limit)),
+            Question::Names { pino } => Answer::Is(count_names(blocks, pino)),
+            Question::Length { ino } => Answer::Is(file_length(blocks, ino) as usize),
+            Question::Version { number } => Answer::Is(highest_version(blocks, number) as usize),
+            Question::Number => Answer::Is(highest_number(blocks) as usize),
+            Question::Missed => Answer::Is(missed(blocks)),
+            Question::States => Answer::Is(states(blocks)),
+        }
+    }
+
+    // What a line answers.
+    pub(crate) fn answer(&mut self, heap: Global, command: Command<'_>) -> Answer {
+        match command {
+            Command::Change(change) => Answer::Changed(self.change(heap, change)),
+            Command::Question(question) => self.ask(question),
+        }
     }
 }

@@ -1,7 +1,7 @@
 // Contents: those that pass, each condition for passing alone, and then each cause of a refusal alone.
 use crate::case::{Base, Case, FIRST};
 
-pub(crate) static CONTENTS: [Case; 55] = [
+pub(crate) static CONTENTS: [Case<'static>; 55] = [
     Case("good", Base::Plain, FIRST, &[], &[]),
     Case(
         "good, a zero word behind",

@@ -1,7 +1,7 @@
 // Entries: those that pass, each condition for passing alone, and then each cause of a refusal alone.
 use crate::case::{Base, Case, FIRST};
 
-pub(crate) static ENTRIES: [Case; 46] = [
+pub(crate) static ENTRIES: [Case<'static>; 46] = [
     Case("good", Base::File, FIRST, &[], &[]),
     Case(
         "good, a zero word behind",

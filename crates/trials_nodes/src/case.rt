@@ -17,16 +17,19 @@ pub(crate) enum Base {
     Hole,
 }
 
+// A word of an item: its offset there, and a value to write or bits to flip.
+pub(crate) type Word = (usize, u32);
+
 // What to call it, the base, its place and the block's length, words to write, and bits to flip. Words are written at offsets
 // from the place, and then the item's sums are made right; the bits of words are flipped last, and no sum is made right.
-// Zero words lead from the marker to a place above 12.
+// Zero words lead from the marker to a place above 12. With names for its fields each row of the tables would take seven lines.
 #[derive(Clone, Copy)]
-pub(crate) struct Case(
-    pub(crate) &'static str,
+pub(crate) struct Case<'a>(
+    pub(crate) &'a str,
     pub(crate) Base,
     pub(crate) (usize, usize),
-    pub(crate) &'static [(usize, u32)],
-    pub(crate) &'static [(usize, u32)],
+    pub(crate) &'a [Word],
+    pub(crate) &'a [Word],
 );
 
 // Behind the marker, in a whole block.

@@ -1,9 +1,11 @@
 // Tries random changes of items: the blocks, what the walks met and what they judged are folded into a number, printed now and
 // then.
-use crate::case::Base;
-use crate::image::{BLOCK, image};
-use crate::random::{Random, fold};
-use crate::tally::{digest, offence_number, tally};
+use crate::case::{Base, Case, FIRST, Word};
+use crate::image::BLOCK;
+use crate::tally::{offence_number, tally};
+use std::fmt;
+use trials::digest::{Digest, digest_of};
+use trials::random::Random;
 
 // Numbers at which something changes.
 static VALUES: [u32; 16] = [
@@ -18,17 +20,28 @@ struct Seen {
     offences: usize,
 }
 
+impl fmt::Display for Seen {
+    fn fmt<W: fmt::Write>(&self, f: &mut fmt::Formatter<W>) -> fmt::Result {
+        let Seen {
+            all,
+            items,
+            offences,
+        } = *self;
+        write!(f, "{all:08x}, items {items}, offences {offences}")
+    }
+}
+
 // A word's offset in an item, and a value for it.
-fn change(random: &mut Random) -> (usize, u32) {
+fn change(random: &mut Random) -> Word {
     let at = random.below(18) as usize;
     let value = match random.below(3) {
         0 => random.number(),
-        _ => VALUES[random.below(16) as usize % 16],
+        _ => VALUES[random.below(16) as usize],
     };
     (4 * at, value)
 }
 
-fn item(random: &mut Random) -> Base {
+fn base(random: &mut Random) -> Base {
     match random.below(4) {
         0 => Base::File,
         1 => Base::Removal,
@@ -39,31 +52,24 @@ fn item(random: &mut Random) -> Base {
 
 // One block, with two changed words and right sums, or with one changed word and the sums as they were.
 fn turn(rt: &HostRuntime, random: &mut Random, seen: Seen) -> anyhow::Result<Seen> {
-    let base = item(random);
+    let base = base(random);
     let one = change(random);
     let two = change(random);
     let block = match random.below(4) {
-        0 => image(rt.alloc(), base, (12, BLOCK), &[], &[one])?,
-        _ => image(rt.alloc(), base, (12, BLOCK), &[one, two], &[])?,
+        0 => Case("random", base, FIRST, &[], &[one]).image(rt.alloc())?,
+        _ => Case("random", base, FIRST, &[one, two], &[]).image(rt.alloc())?,
     };
-    let met = tally(&block, &[true; BLOCK / 4]);
+    let met = tally(&block);
     let number = offence_number(met);
-    let all = fold(fold(seen.all, digest(&block)), number as u32);
     Ok(Seen {
-        all: fold(all, (met.last % BLOCK) as u32),
+        all: seen
+            .all
+            .with(digest_of(&block))
+            .with(u32::from(number))
+            .with((met.last % BLOCK) as u32),
         items: seen.items.saturating_add(met.items),
-        offences: seen.offences.saturating_add((number > 0) as usize),
+        offences: seen.offences.saturating_add(usize::from(number > 0)),
     })
-}
-
-fn show(rt: &HostRuntime, i: u32, seen: Seen) -> anyhow::Result<()> {
-    let Seen {
-        all,
-        items,
-        offences,
-    } = seen;
-    println!(rt; "{i}: {all:08x}, items {items}, offences {offences}")?;
-    Ok(())
 }
 
 pub(crate) fn try_chance(rt: &HostRuntime) -> anyhow::Result<()> {
@@ -77,7 +83,7 @@ pub(crate) fn try_chance(rt: &HostRuntime) -> anyhow::Result<()> {
     for i in 0..1000u32 {
         seen = turn(rt, &mut random, seen)?;
         if i % 50 == 49 {
-            show(rt, i, seen)?;
+            println!(rt; "{i}: {seen}")?;
         }
     }
     Ok(())

@@ -1,7 +1,7 @@
 // Where a block ends, and how it begins.
 use crate::case::{Base, Case};
 
-pub(crate) static ENDS: [Case; 25] = [
+pub(crate) static ENDS: [Case<'static>; 25] = [
     Case("entry up to the end", Base::File, (4052, 4096), &[], &[]),
     Case(
         "entry that needs 4 more",

@@ -1,7 +1,7 @@
 // Headers behind the marker: one of an unknown kind that passes, and then each condition on it alone, at and beside its bound.
 use crate::case::{Base, Case, FIRST};
 
-pub(crate) static HEADERS: [Case; 29] = [
+pub(crate) static HEADERS: [Case<'static>; 29] = [
     Case("good", Base::Bare, FIRST, &[(0, 0x20051985), (4, 12)], &[]),
     Case(
         "first magic byte",

@@ -1,36 +1,33 @@
 // Makes the bytes of a block for a case.
-use crate::case::Base;
+use crate::case::{Base, Case, Word};
 use crc32::sum_of;
 use encode::filler::marker;
-use encode::node::{encode_content, encode_entry};
+use encode::node::encode;
 use nodes::record::{Content, Entry};
 use std::alloc::{AllocError, Global};
 
 pub(crate) const BLOCK: usize = 4096;
 
 // Copies as many of the bytes as fit to a place.
-pub(crate) fn lay(block: &mut [u8], place: usize, bytes: &[u8]) {
-    if place > block.len() {
-        return;
+fn lay(block: &mut [u8], place: usize, bytes: &[u8]) {
+    if let Some(room) = block.get_mut(place..) {
+        for (to, byte) in room.iter_mut().zip(bytes) {
+            *to = *byte;
+        }
     }
-    let n = bytes.len().min(block.len() - place);
-    block[place..place + n].copy_from_slice(&bytes[..n]);
 }
 
 // The word at a place, or 0 where the bytes end before it does.
 fn word(bytes: &[u8], at: usize) -> u32 {
-    if bytes.len() < 4 || at > bytes.len() - 4 {
-        return 0;
-    }
-    u32::from_le_bytes([bytes[at], bytes[at + 1], bytes[at + 2], bytes[at + 3]])
+    let rest = bytes.get(at..).unwrap_or(b"");
+    rest.first_chunk()
+        .map_or(0, |word| u32::from_le_bytes(*word))
 }
 
 // The sum of the n bytes at a place, or of those that there are.
 fn sum_at(bytes: &[u8], at: usize, n: usize) -> u32 {
-    if at > bytes.len() {
-        return 0;
-    }
-    sum_of(&bytes[at..at + n.min(bytes.len() - at)])
+    let rest = bytes.get(at..).unwrap_or(b"");
+    sum_of(rest.get(..n).unwrap_or(rest))
 }
 
 fn put_sum(item: &mut [u8], at: usize, from: usize, n: usize) {
@@ -81,21 +78,19 @@ fn content(dsize: u32, compr: u8, payload: &'static [u8]) -> Content<'static> {
     }
 }
 
-// Makes the item of a base and answers its size, 0 where it has none.
-fn make(base: Base, out: &mut [u8]) -> usize {
-    let size = match base {
-        Base::Blank => None,
-        Base::Bare => None,
-        Base::File => encode_entry(&entry(2, 8), out),
-        Base::Removal => encode_entry(&entry(0, 0), out),
-        Base::Plain => encode_content(&content(5, 0, b"hello"), out),
-        Base::Hole => encode_content(&content(300, 1, b""), out),
-    };
-    size.unwrap_or(0)
+// Makes the item of a base, and answers its size if it has one.
+fn make(base: Base, out: &mut [u8]) -> Option<usize> {
+    match base {
+        Base::Blank | Base::Bare => None,
+        Base::File => encode(&entry(2, 8), out),
+        Base::Removal => encode(&entry(0, 0), out),
+        Base::Plain => encode(&content(5, 0, b"hello"), out),
+        Base::Hole => encode(&content(300, 1, b""), out),
+    }
 }
 
 // Writes words, makes the sums right, and then flips bits.
-fn change(item: &mut [u8], edits: &[(usize, u32)], flips: &[(usize, u32)]) {
+fn change(item: &mut [u8], edits: &[Word], flips: &[Word]) {
     for (at, value) in edits {
         lay(item, *at, &value.to_le_bytes());
     }
@@ -109,34 +104,29 @@ fn change(item: &mut [u8], edits: &[(usize, u32)], flips: &[(usize, u32)]) {
 }
 
 // A block with the item of a base at a place, where zero words lead from the marker to it.
-fn with_base(heap: Global, base: Base, place: usize) -> Result<Vec<u8>, AllocError> {
-    let mut block = vec![in heap; 0xffu8; BLOCK]?;
-    let mut run = vec![in heap; 0xffu8; 1024]?;
+fn with_base(base: Base, place: usize) -> [u8; BLOCK] {
+    let mut block = [0xff; BLOCK];
     if !matches!(base, Base::Blank) {
         let _ = marker(&mut block);
     }
-    for at in 12..place {
-        lay(&mut block, at, &[0]);
+    if let Some(gap) = block.get_mut(12..place) {
+        gap.fill(0);
     }
-    let n = make(base, &mut run);
-    if n <= run.len() {
-        lay(&mut block, place, &run[..n]);
+    let mut run = [0xff; 1024];
+    if let Some(item) = make(base, &mut run).and_then(|n| run.get(..n)) {
+        lay(&mut block, place, item);
     }
-    Ok(block)
+    block
 }
 
-// A block of so many bytes with the item of a base at a place, and changes there.
-pub(crate) fn image(
-    heap: Global,
-    base: Base,
-    (place, length): (usize, usize),
-    edits: &[(usize, u32)],
-    flips: &[(usize, u32)],
-) -> Result<Vec<u8>, AllocError> {
-    let mut block = with_base(heap, base, place)?;
-    if place <= block.len() {
-        change(&mut block[place..], edits, flips);
+impl Case<'_> {
+    // The bytes of the block.
+    pub(crate) fn image(&self, heap: Global) -> Result<Vec<u8>, AllocError> {
+        let Case(_, base, (place, length), edits, flips) = *self;
+        let mut block = with_base(base, place);
+        if let Some(item) = block.get_mut(place..) {
+            change(item, edits, flips);
+        }
+        block[..length.min(BLOCK)].to_vec(heap)
     }
-    block.truncate(length);
-    Ok(block)
 }

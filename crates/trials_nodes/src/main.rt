@@ -9,7 +9,6 @@ mod chance;
 mod ends;
 mod headers;
 mod image;
-mod random;
 mod tally;
 
 fn run(rt: &HostRuntime) -> anyhow::Result<()> {

@@ -1,68 +1,42 @@
 // Walks the block of a case, and prints what the walk met.
 use crate::case::Case;
-use crate::image::{BLOCK, image};
-use flash::refusal::Refusal;
+use crate::image::BLOCK;
+use nodes::image::Image;
 use nodes::reader::Reader;
+use trials::digest::digest_of;
+use trials::met::Met;
 
-// How many items a walk met, where the last of them stands, and the first offence.
-#[derive(Clone, Copy)]
-pub(crate) struct Met {
-    pub(crate) items: usize,
-    pub(crate) last: usize,
-    pub(crate) offence: Option<Refusal>,
-}
-
-// Walks a block to its end.
-pub(crate) fn tally<'a>(bytes: &'a [u8], readable: &'a [bool]) -> Met {
-    let mut all = Met {
-        items: 0,
-        last: 0,
-        offence: None,
+// Walks a block of which all can be read to its end.
+pub(crate) fn tally(bytes: &[u8]) -> Met {
+    let image = Image {
+        bytes,
+        readable: &[true; BLOCK / 4],
     };
-    let mut reader = Reader::new(0, bytes, readable);
-    while let Some(found) = reader.next() {
-        all.items = all.items.saturating_add(1);
-        all.last = found.place.offset;
-        if all.offence.is_none() {
-            all.offence = found.item.offence();
-        }
-    }
-    all
-}
-
-// A number that tells blocks apart. The sum of a header and its own sum is always 0, so that sum would not do.
-pub(crate) fn digest(bytes: &[u8]) -> u32 {
-    let mut all: u32 = 1;
-    for b in bytes {
-        all = (all ^ *b as u32).wrapping_mul(16777619);
-    }
-    all
+    Reader::new(0, image).fold(Met::default(), |met, found| met.with(&found))
 }
 
 // The number of the first offence, 0 where there is none.
-pub(crate) fn offence_number(all: Met) -> u8 {
-    match all.offence {
-        Some(refusal) => refusal.number(),
-        None => 0,
-    }
+pub(crate) fn offence_number(met: Met) -> u8 {
+    met.offence.map_or(0, u8::from)
 }
 
-fn show(rt: &HostRuntime, label: &str, block: u32, all: Met) -> anyhow::Result<()> {
-    let items = all.items;
-    let last = all.last;
-    let offence = offence_number(all);
-    println!(rt; "{label}: block {block:08x}, items {items}, last at {last}, offence {offence}")?;
+// Tries a case, and prints a digest of its block, as the model has to speak of the same bytes, and what the walk met.
+fn try_case(rt: &HostRuntime, case: &Case<'_>) -> anyhow::Result<()> {
+    let Case(label, ..) = case;
+    let block = case.image(rt.alloc())?;
+    let digest: u32 = digest_of(&block);
+    let met = tally(&block);
+    let Met { items, last, .. } = met;
+    let offence = offence_number(met);
+    println!(rt; "{label}: block {digest:08x}, items {items}, last at {last}, offence {offence}")?;
     Ok(())
 }
 
-// Tries each case, and prints a digest of its block, as the model has to speak of the same bytes, and what the walk met.
-pub(crate) fn try_cases(rt: &HostRuntime, title: &str, cases: &[Case]) -> anyhow::Result<()> {
+// Tries each case of a table.
+pub(crate) fn try_cases(rt: &HostRuntime, title: &str, cases: &[Case<'_>]) -> anyhow::Result<()> {
     println!(rt; "{title}")?;
-    let readable = vec![in rt.alloc(); true; BLOCK / 4]?;
     for case in cases {
-        let Case(label, base, spot, edits, flips) = *case;
-        let block = image(rt.alloc(), base, spot, edits, flips)?;
-        show(rt, label, digest(&block), tally(&block, &readable))?;
+        try_case(rt, case)?;
     }
     Ok(())
 }

@@ -2,9 +2,11 @@
 use flash::interface::Flash;
 use flash::place::Place;
 use flash::refusal::Refusal;
+use std::fmt;
 
 // What is asked, with a block, an offset and a number of bytes where it wants them. The first number of a program says which
-// bytes: byte i is i modulo 64 with the bits of that number set.
+// bytes: byte i is i modulo 64 with the bits of that number set. With names for the fields each row of the tables would take
+// five lines.
 #[derive(Clone, Copy)]
 pub(crate) enum Call {
     Read(usize, usize, usize),
@@ -17,40 +19,46 @@ pub(crate) enum Call {
     Look(usize),
 }
 
-pub(crate) const LOOKED: usize = 24;
-
-// Prints an answer behind what was asked; of a mark its value too, else 0.
-pub(crate) fn show(rt: &HostRuntime, answer: Result<usize, Refusal>) -> anyhow::Result<()> {
-    match answer {
-        Ok(value) => print!(rt; ": done, {value}")?,
-        Err(refusal) => {
-            let number = refusal.number();
-            print!(rt; ": refused {number}")?;
+impl fmt::Display for Call {
+    fn fmt<W: fmt::Write>(&self, f: &mut fmt::Formatter<W>) -> fmt::Result {
+        match self {
+            Call::Read(block, offset, n) => write!(f, "read {block} {offset} {n}"),
+            Call::Program(_, block, offset, n) => write!(f, "program {block} {offset} {n}"),
+            Call::Erase(block) => write!(f, "erase {block}"),
+            Call::Mark(block) => write!(f, "mark {block}"),
+            Call::Arm(steps, fault) => write!(f, "arm {steps} {fault:02x}"),
+            Call::Restart => write!(f, "restart"),
+            Call::Look(block) => write!(f, "look {block}:"),
         }
     }
-    Ok(())
 }
 
-// What a call that answers nothing is printed as.
-pub(crate) fn done(answer: Result<(), Refusal>) -> Result<usize, Refusal> {
-    match answer {
-        Ok(()) => Ok(0),
-        Err(refusal) => Err(refusal),
+// What a call answers; of a mark its value too, else 0.
+#[derive(Clone, Copy)]
+pub(crate) struct Answer(pub(crate) Result<usize, Refusal>);
+
+impl From<Result<(), Refusal>> for Answer {
+    fn from(answer: Result<(), Refusal>) -> Answer {
+        Answer(answer.map(|()| 0))
+    }
+}
+
+impl fmt::Display for Answer {
+    fn fmt<W: fmt::Write>(&self, f: &mut fmt::Formatter<W>) -> fmt::Result {
+        match self.0 {
+            Ok(value) => write!(f, "done, {value}"),
+            Err(refusal) => write!(f, "refused {}", u8::from(refusal)),
+        }
     }
 }
 
 // Reads into bytes 0xa5, and prints the sum of what the buffer then holds.
-fn read<F: Flash>(
-    rt: &HostRuntime,
-    flash: &F,
-    at: Place,
-    n: usize,
-) -> anyhow::Result<Result<usize, Refusal>> {
-    let mut out = vec![in rt.alloc(); 0xa5u8; n]?;
+fn read<F: Flash>(rt: &HostRuntime, flash: &F, at: Place, n: usize) -> anyhow::Result<Answer> {
+    let mut out = vec![in rt.alloc(); 0xa5; n]?;
     let answer = flash.read(at, &mut out);
     let sum = crc32::sum_of(&out);
     print!(rt; ", buffer {sum:08x}")?;
-    Ok(done(answer))
+    Ok(answer.into())
 }
 
 // Programs n bytes.
@@ -60,91 +68,40 @@ pub(crate) fn program<F: Flash>(
     bits: u8,
     at: Place,
     n: usize,
-) -> anyhow::Result<Result<usize, Refusal>> {
-    let mut bytes = Vec::new(rt.alloc());
-    for i in 0..n {
-        bytes.push((i % 64) as u8 | bits)?;
-    }
-    Ok(done(flash.program(at, &bytes)))
+) -> anyhow::Result<Answer> {
+    let bytes: Vec<u8> = (0..n).map(|i| (i % 64) as u8 | bits).collect(rt.alloc())?;
+    Ok(flash.program(at, &bytes).into())
 }
 
 // Prints the first bytes of a block.
-pub(crate) fn look<F: Flash>(
-    rt: &HostRuntime,
-    flash: &F,
-    block: usize,
-) -> anyhow::Result<Result<usize, Refusal>> {
-    let mut out = [0u8; LOOKED];
+pub(crate) fn look<F: Flash>(rt: &HostRuntime, flash: &F, block: usize) -> anyhow::Result<Answer> {
+    let mut out = [0; 24];
     let answer = flash.read(Place { block, offset: 0 }, &mut out);
     for b in out {
         print!(rt; " {b:02x}")?;
     }
-    Ok(done(answer))
+    Ok(answer.into())
 }
 
-// Asks one call, and prints it with its answer.
-fn ask<F: Flash>(rt: &HostRuntime, flash: &mut F, call: Call) -> anyhow::Result<()> {
-    let answer = match call {
-        Call::Read(..) | Call::Program(..) | Call::Look(_) => ask_long(rt, flash, call)?,
-        _ => ask_short(rt, flash, call)?,
-    };
-    show(rt, answer)?;
-    println!(rt; "")?;
-    Ok(())
-}
-
-// Asks a call with bytes.
-fn ask_long<F: Flash>(
-    rt: &HostRuntime,
-    flash: &mut F,
-    call: Call,
-) -> anyhow::Result<Result<usize, Refusal>> {
-    match call {
-        Call::Read(block, offset, n) => {
-            print!(rt; "read {block} {offset} {n}")?;
-            read(rt, flash, Place { block, offset }, n)
-        }
+// Makes a call; prints what is read.
+fn make<F: Flash>(rt: &HostRuntime, flash: &mut F, call: Call) -> anyhow::Result<Answer> {
+    Ok(match call {
+        Call::Read(block, offset, n) => read(rt, flash, Place { block, offset }, n)?,
         Call::Program(bits, block, offset, n) => {
-            print!(rt; "program {block} {offset} {n}")?;
-            program(rt, flash, bits, Place { block, offset }, n)
+            program(rt, flash, bits, Place { block, offset }, n)?
         }
-        Call::Look(block) => {
-            print!(rt; "look {block}:")?;
-            look(rt, flash, block)
-        }
-        _ => Ok(Ok(0)),
-    }
-}
-
-// Asks a call without bytes.
-fn ask_short<F: Flash>(
-    rt: &HostRuntime,
-    flash: &mut F,
-    call: Call,
-) -> anyhow::Result<Result<usize, Refusal>> {
-    match call {
-        Call::Erase(block) => {
-            print!(rt; "erase {block}")?;
-            Ok(done(flash.erase(block)))
-        }
-        Call::Mark(block) => {
-            print!(rt; "mark {block}")?;
-            Ok(flash.mark(block))
-        }
-        Call::Arm(steps, fault) => {
-            print!(rt; "arm {steps} {fault:02x}")?;
-            Ok(done(flash.arm(steps, fault)))
-        }
+        Call::Erase(block) => flash.erase(block).into(),
+        Call::Mark(block) => Answer(flash.mark(block)),
+        Call::Arm(steps, fault) => flash.arm(steps, fault).into(),
         Call::Restart => {
-            print!(rt; "restart")?;
             flash.restart();
-            Ok(Ok(0))
+            Answer(Ok(0))
         }
-        _ => Ok(Ok(0)),
-    }
+        Call::Look(block) => look(rt, flash, block)?,
+    })
 }
 
-// Asks the calls of a table in order.
+// Asks the calls of a table in order, and prints each with its answer.
 pub(crate) fn try_calls<F: Flash>(
     rt: &HostRuntime,
     flash: &mut F,
@@ -153,7 +110,9 @@ pub(crate) fn try_calls<F: Flash>(
 ) -> anyhow::Result<()> {
     println!(rt; "{title}")?;
     for call in calls {
-        ask(rt, flash, *call)?;
+        print!(rt; "{call}")?;
+        let answer = make(rt, flash, *call)?;
+        println!(rt; ": {answer}")?;
     }
     Ok(())
 }

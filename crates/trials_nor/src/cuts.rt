@@ -1,5 +1,5 @@
 // Cuts of the power at each step of a program and of an erase, with several faults.
-use crate::call::{Call, done, look, program, show};
+use crate::call::{Answer, Call, look, program};
 use flash::interface::Flash;
 use flash::place::Place;
 
@@ -15,9 +15,8 @@ fn after<F: Flash>(rt: &HostRuntime, flash: &mut F) -> anyhow::Result<()> {
     flash.restart();
     print!(rt; ",")?;
     let _ = look(rt, flash, 0)?;
-    print!(rt; ", mark")?;
-    show(rt, flash.mark(0))?;
-    println!(rt; "")?;
+    let mark = Answer(flash.mark(0));
+    println!(rt; ", mark: {mark}")?;
     Ok(())
 }
 
@@ -27,7 +26,7 @@ fn cut_program<F: Flash>(rt: &HostRuntime, flash: &mut F, n: usize, j: u8) -> an
     let _ = flash.erase(0);
     let _ = flash.arm(n, j);
     let answer = program(rt, flash, 0, START, 20)?;
-    show(rt, answer)?;
+    print!(rt; ": {answer}")?;
     after(rt, flash)
 }
 
@@ -37,15 +36,16 @@ fn cut_erase<F: Flash>(rt: &HostRuntime, flash: &mut F, n: usize, j: u8) -> anyh
     let _ = flash.erase(0);
     let _ = program(rt, flash, 0, START, 20)?;
     let _ = flash.arm(n, j);
-    show(rt, done(flash.erase(0)))?;
+    let answer = Answer::from(flash.erase(0));
+    print!(rt; ": {answer}")?;
     after(rt, flash)
 }
 
 pub(crate) fn try_cuts<F: Flash>(rt: &HostRuntime, flash: &mut F) -> anyhow::Result<()> {
     println!(rt; "cuts")?;
     for n in 0..7 {
-        for j in &FAULTS {
-            cut_program(rt, flash, n, *j)?;
+        for &j in &FAULTS {
+            cut_program(rt, flash, n, j)?;
         }
     }
     Ok(())
@@ -53,8 +53,8 @@ pub(crate) fn try_cuts<F: Flash>(rt: &HostRuntime, flash: &mut F) -> anyhow::Res
 
 pub(crate) fn try_erases<F: Flash>(rt: &HostRuntime, flash: &mut F) -> anyhow::Result<()> {
     for n in 0..2 {
-        for j in &FAULTS {
-            cut_erase(rt, flash, n, *j)?;
+        for &j in &FAULTS {
+            cut_erase(rt, flash, n, j)?;
         }
     }
     Ok(())

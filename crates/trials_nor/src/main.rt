@@ -5,7 +5,6 @@
 mod call;
 mod chance;
 mod cuts;
-mod random;
 mod refusals;
 mod sizes;
 

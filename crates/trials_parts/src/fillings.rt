@@ -1,6 +1,6 @@
 // Tries what fills a block from its end up to the end of a batch.
-use crate::digest::digest_of;
 use encode::filler::filling;
+use trials::digest::digest_of;
 
 // The end, the batch and the room.
 static FILLINGS: [(usize, usize, usize); 16] = [
@@ -24,17 +24,17 @@ static FILLINGS: [(usize, usize, usize); 16] = [
 
 // What was made, and a digest of the room.
 fn show(rt: &HostRuntime, end: usize, batch: usize, room: usize) -> anyhow::Result<()> {
-    let mut out = vec![in rt.alloc(); 0xffu8; room]?;
+    let mut out = vec![in rt.alloc(); 0xff; room]?;
     let n = filling(&mut out, end, batch);
-    let all = digest_of(&out);
+    let all: u32 = digest_of(&out);
     println!(rt; "end {end}, batch {batch}, room {room}: {n:?}, digest {all:08x}")?;
     Ok(())
 }
 
 pub(crate) fn try_fillings(rt: &HostRuntime) -> anyhow::Result<()> {
     println!(rt; "fillings")?;
-    for (end, batch, room) in &FILLINGS {
-        show(rt, *end, *batch, *room)?;
+    for &(end, batch, room) in &FILLINGS {
+        show(rt, end, batch, room)?;
     }
     Ok(())
 }

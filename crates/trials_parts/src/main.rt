@@ -2,7 +2,6 @@
 // model, which knows nothing of this code.
 #![tactic(auto)]
 
-mod digest;
 mod fillings;
 mod pages;
 mod sums;

@@ -1,6 +1,0 @@
-use Rattle.std.proofs.Common.{length}
-use Rattle.nodes.specs.Reading.{rest}
-use Rattle.bench_piles.proofs.desk.walk.Given as goal
-
-abbrev pub decreases-loop-found : goal.decreases-loop-found
-decreases-loop-found l = length (rest l.reader)
