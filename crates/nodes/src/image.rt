@@ -6,7 +6,7 @@ ghost use Rattle.nodes.specs.Walk.{marked, marker};
 use crate::tail::Tail;
 
 // The bytes of a block as they were read, with one flag for each 4 of them: where it is false or missing, they could not be
-// read.
+// read. The two rows stay apart, for names and data are handed out as parts of the caller's buffer, and nothing is copied.
 #[derive(Clone, Copy)]
 pub struct Image<'a> {
     pub bytes: &'a [u8],
