@@ -8,11 +8,7 @@ ghost use Rattle.encode.specs.Made.{Made, filling_goes};
 
 use crate::words::{header, put_words};
 use kinds::Kind;
-
-// The header of the marker's kind, 12 bytes long, with its sum.
-const MARKER: [u8; 12] = [
-    0x85, 0x19, 0x03, 0x20, 0x0c, 0x00, 0x00, 0x00, 0xb1, 0xb0, 0x1e, 0xe4,
-];
+use nodes::image::MARKER;
 
 // Writes the marker at the front of `out` and answers its size; refuses want of room.
 pub fn marker(out: &mut [u8]) -> Option<usize>

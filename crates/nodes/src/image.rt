@@ -14,7 +14,7 @@ pub struct Image<'a> {
 }
 
 // The marker: the header of an item of its kind that is 12 bytes long, with its sum.
-const MARKER: [u8; 12] = [
+pub const MARKER: [u8; 12] = [
     0x85, 0x19, 0x03, 0x20, 0x0c, 0x00, 0x00, 0x00, 0xb1, 0xb0, 0x1e, 0xe4,
 ];
 
