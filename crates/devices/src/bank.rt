@@ -30,7 +30,8 @@ pub struct Bank<'a> {
 }
 
 impl<'a> Bank<'a> {
-    // The blocks of this memory, with what it holds; or the memory back, if it is not 4 to 16 whole blocks.
+    // The blocks of this memory, with what it holds; or the memory back, if it is not 4 to 16 whole blocks. Why, and what comes
+    // back, are a pair as they are matched at once, here and wherever a flash is put together.
     pub(crate) fn new(
         memory: &'a mut [u8],
         sizes: Sizes,
@@ -91,7 +92,8 @@ impl Bank<'_> {
         out.copy_from_slice(&self.memory[from..from + out.len()]);
     }
 
-    // Whether n bytes at a place leave the block, or the chip.
+    // Whether n bytes at a place leave the block, or the chip. The place and n come apart from each call of the interface, and no
+    // fact binds them before this one, so they are no struct.
     fn leaves(&self, at: Place, n: usize) -> bool
         ensures { result ≡ leaves (blocks_in self.now.sizes.block (length self.now.memory.now)) self.now.sizes.block at.block at.offset n }
     {

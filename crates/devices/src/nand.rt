@@ -17,6 +17,7 @@ use flash::interface::Flash;
 use flash::place::{Place, Shape};
 use flash::refusal::Refusal;
 
+// The flags are an array, with room for 16 blocks, as a chip takes no memory but the caller's: set for a page that is lost.
 #[derive(Drop)]
 pub struct Nand<'a> {
     bank: Bank<'a>,

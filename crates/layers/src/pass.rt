@@ -1,4 +1,5 @@
-// What an accepted program does, step by step.
+// What an accepted program does, step by step. That a run is accepted, and near, is said of a buffer and a run together, so it
+// stands in the type of neither.
 ghost use Rattle.std.specs.Prelude.{◌≡◌, ◌+◌, ◌%◌, ◌<◌, length, take, Some, Ok};
 ghost use Rattle.flash.specs.Rules.{Programmed};
 ghost use Rattle.layers.specs.WriteBuffer.{Accepts, IsLaid, IsNear};

@@ -42,7 +42,8 @@ fn read_words<F: Flash>(flash: &F, block: usize, bytes: &mut [u8], readable: &mu
 }
 
 // Reads a block into `bytes`, which is as long as the block, and notes in `readable`, for each 4 bytes, whether they can be
-// read. The block is read whole, and word by word only where some of it cannot be read.
+// read. The block is read whole, and word by word only where some of it cannot be read. Both are buffers of the caller's: a
+// struct round two `&mut` would be made for this one call.
 pub fn read_block<F: Flash>(
     flash: &F,
     block: usize,
