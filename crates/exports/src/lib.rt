@@ -4,6 +4,7 @@
 
 ghost use Rattle.std.specs.Prelude.{◌≡◌, true, length, replicate};
 ghost use Rattle.crc32.specs.Sum.{sum};
+ghost use Rattle.nodes.specs.Image.{seen_in};
 ghost use Rattle.nodes.specs.Seen.{seen};
 ghost use Rattle.nodes.specs.Walk.{walk};
 
@@ -17,14 +18,20 @@ pub fn mutsindry_sum(bytes: &[u8]) -> u32
     crc32::sum_of(bytes)
 }
 
+// How many items the walk of a block meets.
+fn count(image: Image<'_>) -> usize
+    ensures { result ≡ length (walk (seen_in image.entry)) }
+{
+    Reader::new(0, image).count()
+}
+
 // How many items the walk of a block of at most 4,096 bytes meets, all of which can be read.
 pub fn mutsindry_items(bytes: &[u8]) -> usize
     ensures { result ≡ length (walk (seen (replicate 1024 true) bytes.now)) }
 {
     let readable = [true; 1024];
-    let image = Image {
+    count(Image {
         bytes,
         readable: &readable,
-    };
-    Reader::new(0, image).count()
+    })
 }

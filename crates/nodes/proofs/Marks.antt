@@ -1,5 +1,7 @@
 -- Cells that are alike, and the marker at the start of a block.
-use Rattle.std.proofs.Common.{◌<◌, ◌⊎◌, ◌&&◌, ⊎_elim, inl, inr, None, Option, MatchOption, Bor, ◌≡◌, ℕ, zero, suc, ◌≤◌, Bool, true, false, cond, eqb, List, [], ◌∷◌, ◌++◌, length, take, drop, Some, sym, refl, ap, ◌∙◌, arith, length-take}
+use Rattle.std.proofs.lemmas.Bool.Decides.{same_from_decides}
+use Rattle.std.proofs.lemmas.Slice.Eq.{bytes_eq-Decides}
+use Rattle.std.proofs.Common.{Decides, IsTrue, ◌↔◌, ◌<◌, ◌⊎◌, ◌&&◌, ⊎_elim, inl, inr, None, Option, MatchOption, Bor, ◌≡◌, ℕ, zero, suc, ◌≤◌, Bool, true, false, cond, eqb, List, [], ◌∷◌, ◌++◌, length, take, drop, Some, sym, refl, ap, ◌∙◌, arith, length-take}
 use Rattle.std.proofs.lemmas.List.{take-append-drop}
 use Rattle.std.proofs.lemmas.Bool.{eqb-true, eq-eqb, le-leb, cond-true, cond-false}
 use Rattle.std.specs.Str.{bytes_eq}
@@ -64,10 +66,15 @@ alike_short (suc n) (byte a ∷ xs) (byte b ∷ ys) h =
     go false e = refl
 
 -- the code's test of the first twelve bytes
-pub marked_read : (xs : List Cell) (o : Option (Bor (List ℕ))) (r : Bool) (P : Bor (List ℕ) → Type 0) → IsRead xs 12 o → MatchOption o (r ≡ false) P → ((bs : Bor (List ℕ)) → P bs → r ≡ bytes_eq marker bs.now) → r ≡ marked xs
+pub marked_read : (xs : List Cell) (o : Option (Bor (List ℕ))) (r : Bool) → IsRead xs 12 o → MatchOption o (r ≡ false) (λ bs. IsTrue r ↔ (bs.now ≡ marker)) → r ≡ marked xs
 unfolding marked front
-marked_read xs (Some bs) r P f h says = says bs h ∙ ap (bytes_eq marker) f.1 ∙ alike_read 12 (cells marker) xs (omega arith) f.0
-marked_read xs None r P f h says = h ∙ sym (alike_short 12 (cells marker) xs (inr f))
+marked_read xs (Some bs) r f h = same_from_decides r (bytes_eq marker (take 12 (front xs))) h same ∙ alike_read 12 (cells marker) xs (omega arith) f.0
+  where
+    same : Decides (bytes_eq marker (take 12 (front xs))) (bs.now ≡ marker)
+    same =
+        let d = bytes_eq-Decides marker (take 12 (front xs)) in
+        (λ e. f.1 ∙ sym (d.0 e), λ e. d.1 (sym e ∙ f.1))
+marked_read xs None r f h = h ∙ sym (alike_short 12 (cells marker) xs (inr f))
 
 pub marked_cells : (xs : List Cell) → marked xs ≡ true → take 12 xs ≡ cells marker
 unfolding marked

@@ -1,12 +1,12 @@
 // A block as it was read.
-ghost use Rattle.std.specs.Prelude.{◌≡◌, ◌<◌, ◌≤◌, length, drop};
+ghost use Rattle.std.specs.Prelude.{◌≡◌, ◌<◌, ◌≤◌, ◌↔◌, IsTrue, length, drop};
 ghost use Rattle.nodes.specs.Seen.{IsRead};
-ghost use Rattle.nodes.specs.Walk.{marked};
+ghost use Rattle.nodes.specs.Walk.{marked, marker};
 
 use crate::tail::Tail;
 
 // The bytes of a block as they were read, with one flag for each 4 of them: where it is false or missing, they could not be
-// read.
+// read. The two rows stay apart, for names and data are handed out as parts of the caller's buffer, and nothing is copied.
 #[derive(Clone, Copy)]
 pub struct Image<'a> {
     pub bytes: &'a [u8],
@@ -17,6 +17,13 @@ pub struct Image<'a> {
 const MARKER: [u8; 12] = [
     0x85, 0x19, 0x03, 0x20, 0x0c, 0x00, 0x00, 0x00, 0xb1, 0xb0, 0x1e, 0xe4,
 ];
+
+// Whether these are the marker's bytes.
+fn is_marker(bytes: &[u8]) -> bool
+    ensures { IsTrue result ↔ (bytes.now ≡ marker) }
+{
+    bytes == MARKER.as_slice()
+}
 
 impl<'a> Image<'a> {
     ghost use Rattle.nodes.specs.Image.{seen_in};
@@ -47,7 +54,6 @@ impl<'a> Image<'a> {
     pub(crate) fn is_marked(self) -> bool
         ensures { result ≡ marked (seen_in self.entry) }
     {
-        self.bytes_at(0, 12)
-            .is_some_and(|front| MARKER.as_slice() == front)
+        self.bytes_at(0, 12).is_some_and(is_marker)
     }
 }

@@ -3,7 +3,7 @@ use Rattle.std.proofs.lemmas.Iterator.Consumers.{count_from_yields_List}
 use Rattle.std.proofs.lemmas.List.{length-map}
 use Rattle.nodes.specs.Reading.{rest, found_at}
 use Rattle.nodes.proofs.Reading.{finds_all}
-use Rattle.exports.proofs.mutsindry_items.Goals as goal
+use Rattle.exports.proofs.count.Goals as goal
 
 pub returns : goal.returns
 returns c =
