@@ -196,13 +196,6 @@ module _ (bs : List Block) where
       e : drop i bs ≡ []
       e = drop_all i bs h
 
--- every block taken for full, block by block
-pub filled_more : (bs : List Block) (i : ℕ) → changed i Full (map full (take i bs) ++ drop i bs) ≡ map full (take (suc i) bs) ++ drop (suc i) bs
-filled_more [] zero = refl
-filled_more [] (suc i) = refl
-filled_more (b ∷ bs) zero = refl
-filled_more (b ∷ bs) (suc i) = ap (λ l. full b ∷ l) (filled_more bs i)
-
 full_nodes : (bs : List Block) → map nodes_in (map full bs) ≡ map nodes_in bs
 full_nodes [] = refl
 full_nodes (b ∷ bs) = ap (λ l. nodes_in b ∷ l) (full_nodes bs)

@@ -11,7 +11,7 @@ use Rattle.index.specs.Blocks.{entries_in, contents_in}
 use Rattle.index.specs.Missed.{Kept, nodes_in, is_spent, kept_in, twin_of, missed, misses}
 use Rattle.std.proofs.lemmas.List.Folds.{list_any-append}
 
-pub any_map : {X Y : Type 0} (f : Y → Bool) (g : X → Y) (xs : List X) → list_any f (map g xs) ≡ list_any (λ x. f (g x)) xs
+any_map : {X Y : Type 0} (f : Y → Bool) (g : X → Y) (xs : List X) → list_any f (map g xs) ≡ list_any (λ x. f (g x)) xs
 any_map f g [] = refl
 any_map f g (x ∷ xs) = ap (λ b. f (g x) || b) (any_map f g xs)
 
@@ -24,7 +24,7 @@ or_false true = refl
 or_false false = refl
 
 -- a test of the records of a block
-pub any_nodes : (f : Kept → Bool) (b : Block) → list_any f (nodes_in b) ≡ (list_any (λ e. f (entry e)) (entries_in b) || list_any (λ c. f (content c)) (contents_in b))
+any_nodes : (f : Kept → Bool) (b : Block) → list_any f (nodes_in b) ≡ (list_any (λ e. f (entry e)) (entries_in b) || list_any (λ c. f (content c)) (contents_in b))
 any_nodes f b =
     list_any-append f (map entry (entries_in b)) (map content (contents_in b))
     ∙ ap (λ x. x || list_any f (map content (contents_in b))) (any_map f entry (entries_in b))
@@ -39,7 +39,7 @@ module _ {R : Type 0} (listed : Block → List R) (f : R → Bool) (g : Kept →
       go true = refl
       go false = same b
 
-  pub all_alike : (bs : List Block) → list_any g (flat_map (kept_in nodes_in) bs) ≡ list_any f (flat_map (kept_in listed) bs)
+  all_alike : (bs : List Block) → list_any g (flat_map (kept_in nodes_in) bs) ≡ list_any f (flat_map (kept_in listed) bs)
   all_alike [] = refl
   all_alike (b ∷ bs) =
       list_any-append g (kept_in nodes_in b) (flat_map (kept_in nodes_in) bs)

@@ -1,4 +1,5 @@
-// What is looked up among the contents: lengths of files, and which content gives a byte.
+// What is looked up among the contents: lengths of files, and which content gives a byte. A byte is asked for by a number and a
+// place, as callers have them: a struct of the two would be made for each call and taken apart at once.
 ghost use Rattle.std.specs.Prelude.{◌≡◌};
 ghost use Rattle.tree.specs.Lookups.{last, giver, length_of};
 ghost use Rattle.index.specs.Blocks.{all_contents};

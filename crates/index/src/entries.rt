@@ -51,8 +51,8 @@ pub(crate) fn is_named(blocks: &[Block], ino: u32) -> bool
 fn is_first_met(blocks: &[Block], entry: &EntryRecord) -> bool
     ensures { result ≡ first_met (all_entries blocks.now) entry.now }
 {
-    newest_entry(blocks, entry.pino, entry.name.as_slice()).is_some_and(|found| found.place
-        == entry.place)
+    let found = newest_entry(blocks, entry.pino, entry.name.as_slice());
+    found.is_some_and(|f| f.place == entry.place)
 }
 
 // How many names a directory has.
@@ -73,7 +73,8 @@ fn is_lesser(one: &EntryRecord, best: Option<EntryRecord>) -> bool
     best.is_none_or(|b| b.is_above(one.name.as_slice()))
 }
 
-// The entry that counts with the smallest name above a given one, in a directory.
+// The entry that counts with the smallest name above a given one, in a directory. Whether an entry counts is asked last, since it
+// takes a look-up.
 pub fn next_entry(blocks: &[Block], pino: u32, above: &[u8]) -> Option<EntryRecord>
     ensures { result ≡ next_above (all_entries blocks.now) pino above.now }
 {

@@ -35,6 +35,14 @@ impl TryFrom<&[u8]> for Name {
     }
 }
 
+impl fmt::Display for NameTooLong {
+    fn fmt<W: fmt::Write>(&self, f: &mut fmt::Formatter<W>) -> fmt::Result {
+        f.write_str("a name of more than 32 bytes")
+    }
+}
+
+impl Error for NameTooLong {}
+
 impl Name {
     ghost use Rattle.index.specs.Shown.{name_shown};
 

@@ -1,13 +1,19 @@
 // Which nodes the tree cannot do without.
 ghost use Rattle.std.specs.Prelude.{◌≡◌, ◌+◌, ◌^◌, ◌<◌, min};
-ghost use Rattle.tree.specs.Lookups.{any_below, outlives, needed_entry, needed_content, giver, last, length_of, shows};
+ghost use Rattle.std.specs.List.{flat_map};
+ghost use Rattle.tree.specs.Lookups.{any_below, outlives, giver, last, length_of, shows};
+ghost use Rattle.tree.specs.Nodes.{entry, content};
+ghost use Rattle.tree.specs.Spent.{has_twin};
 ghost use Rattle.index.specs.Beaten.{beaten_until};
 ghost use Rattle.index.specs.Blocks.{all_entries, all_contents};
+ghost use Rattle.index.specs.Missed.{Kept, nodes_in, kept_in, elsewhere, twin_of, need};
 ghost use Rattle.index.specs.Shown.{entry_shown, span_shown};
 
 use crate::block::Block;
 use crate::contents::{file_length, giver, newest_content};
+use crate::elsewhere::stands_elsewhere;
 use crate::entries::{is_named, newest_entry};
+use crate::kind::Record;
 use crate::newest::is_unbeaten;
 use crate::record::{ContentRecord, EntryRecord};
 use tree::supersedes;
@@ -16,20 +22,9 @@ use tree::supersedes;
 fn outlives(blocks: &[Block], one: &EntryRecord) -> bool
     ensures { result ≡ outlives entry_shown (all_entries blocks.now) (entry_shown one.now) }
 {
-    blocks.iter().flat_map(|b| &b.entries).any(|e| e.is_titled(one.pino, one.name.as_slice())
+    let title = one.name.as_slice();
+    blocks.iter().flat_map(|b| &b.entries).any(|e| e.is_titled(one.pino, title)
         && supersedes(one.version, e.version))
-}
-
-// Whether an entry is needed: the newest of its name, and it names a number or an older entry of the name still stands,
-// which a removal keeps from counting again.
-#[tactic(auto, unfolding(tree::specs::Lookups::needed_entry))]
-pub(crate) fn is_entry_needed(blocks: &[Block], entry: &EntryRecord) -> bool
-    ensures { result ≡ needed_entry entry_shown (all_entries blocks.now) (entry_shown entry.now) }
-{
-    is_unbeaten(
-        newest_entry(blocks, entry.pino, entry.name.as_slice()),
-        entry.version,
-    ) && (entry.ino != 0 || outlives(blocks, entry))
 }
 
 // Where the bytes end that a newer content gives instead, if one gives the byte at a place.
@@ -64,12 +59,49 @@ fn is_shown(blocks: &[Block], content: &ContentRecord) -> bool
     false
 }
 
-// Whether a content is needed: its number has a name, and it is the newest of the number or gives a byte below the length.
-#[tactic(auto, unfolding(tree::specs::Lookups::seen))]
-pub(crate) fn is_content_needed(blocks: &[Block], content: &ContentRecord) -> bool
-    ensures { result ≡ needed_content entry_shown span_shown (all_entries blocks.now) (all_contents blocks.now) (span_shown content.now) }
-{
-    is_named(blocks, content.ino)
-        && (is_unbeaten(newest_content(blocks, content.ino), content.version)
-            || is_shown(blocks, content))
+// A record as a node of the tree.
+pub trait Node: Record {
+    ghost node: { Self → Kept };
+
+    // Whether the tree needs it.
+    fn is_needed(&self, blocks: &[Block]) -> bool
+        ensures { result ≡ need blocks.now (node self.now) };
+
+    // Whether a block other than `home` that is not spent has a twin.
+    fn has_twin(&self, blocks: &[Block], home: usize) -> bool
+        ensures { result ≡ has_twin twin_of (node self.now) (flat_map (kept_in nodes_in) (elsewhere home blocks.now)) };
+}
+
+impl Node for EntryRecord {
+    ghost node = { entry };
+
+    // The newest of its name, and it names a number or an older entry of the name still stands, which a removal keeps from
+    // counting again.
+    #[tactic(auto, unfolding(crate::specs::Missed::need, tree::specs::Lookups::needed_entry))]
+    fn is_needed(&self, blocks: &[Block]) -> bool {
+        is_unbeaten(
+            newest_entry(blocks, self.pino, self.name.as_slice()),
+            self.version,
+        ) && (self.ino != 0 || outlives(blocks, self))
+    }
+
+    fn has_twin(&self, blocks: &[Block], home: usize) -> bool {
+        stands_elsewhere(blocks, home, self)
+    }
+}
+
+impl Node for ContentRecord {
+    ghost node = { content };
+
+    // Its number has a name, and it is the newest of the number or gives a byte below the length.
+    #[tactic(auto, unfolding(crate::specs::Missed::need, tree::specs::Lookups::seen))]
+    fn is_needed(&self, blocks: &[Block]) -> bool {
+        is_named(blocks, self.ino)
+            && (is_unbeaten(newest_content(blocks, self.ino), self.version)
+                || is_shown(blocks, self))
+    }
+
+    fn has_twin(&self, blocks: &[Block], home: usize) -> bool {
+        stands_elsewhere(blocks, home, self)
+    }
 }

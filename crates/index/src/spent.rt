@@ -1,85 +1,14 @@
 // Which blocks can be done without.
-ghost use Rattle.std.specs.Prelude.{◌≡◌, suc, ◌<◌, ◌&&◌, ◌||◌, List, [], map, length, take, drop, if◌then◌else◌, ◌==◌};
-ghost use Rattle.std.specs.List.{flat_map, list_any};
+ghost use Rattle.std.specs.Prelude.{◌≡◌, ◌<◌, ◌||◌, [], map, length, if◌then◌else◌};
+ghost use Rattle.std.specs.List.{list_any};
 ghost use Rattle.tree.specs.Nodes.{entry, content};
-ghost use Rattle.tree.specs.Spent.{has_twin, marks};
+ghost use Rattle.tree.specs.Spent.{marks};
 ghost use Rattle.index.specs.Blocks.{entries_in, contents_in};
-ghost use Rattle.index.specs.Missed.{Kept, nodes_in, kept_in, elsewhere, twin_of, need, missed, misses, with_state, changed, marked};
+ghost use Rattle.index.specs.Missed.{nodes_in, twin_of, need, missed, misses, with_state, changed, marked};
 
 use crate::block::{Block, State};
-use crate::kind::Record;
-use crate::needed::{is_content_needed, is_entry_needed};
+use crate::needed::Node;
 use crate::record::{ContentRecord, EntryRecord};
-
-// What a block has of a kind, if it is not spent.
-fn kept<R: Record>(block: &Block) -> &[R]
-    ensures { result.now ≡ kept_in R.listed block.now }
-{
-    if block.is_spent() { &[] } else { R::of(block) }
-}
-
-// Whether a block that is not spent has a record of the kind, number and version of one.
-fn stands_in<R: Record>(blocks: &[Block], one: &R) -> bool
-    ensures { result ≡ list_any (λ x. R.number x == R.number one.now && R.version x == R.version one.now) (flat_map (kept_in R.listed) blocks.now) }
-{
-    blocks.iter().flat_map(|b| kept::<R>(b)).any(|r| r.number() == one.number()
-        && r.version() == one.version())
-}
-
-// The blocks below that of a number, and those above it.
-fn others(blocks: &[Block], home: usize) -> (&[Block], &[Block])
-    ensures below { result.0.now ≡ take home blocks.now }
-    ensures above { result.1.now ≡ drop (suc home) blocks.now }
-{
-    let (below, rest) = blocks.split_at(home.min(blocks.len()));
-    (below, &rest[1.min(rest.len())..])
-}
-
-// Whether one of the blocks other than `home` does.
-fn stands_elsewhere<R: Record>(blocks: &[Block], home: usize, one: &R) -> bool
-    ensures { result ≡ list_any (λ x. R.number x == R.number one.now && R.version x == R.version one.now) (flat_map (kept_in R.listed) (elsewhere home blocks.now)) }
-{
-    let (below, above) = others(blocks, home);
-    stands_in(below, one) || stands_in(above, one)
-}
-
-// A record as a node of the tree, which may need it.
-pub trait Node: Record {
-    ghost node: { Self → Kept };
-
-    fn is_needed(&self, blocks: &[Block]) -> bool
-        ensures { result ≡ need blocks.now (node self.now) };
-
-    // Whether a block other than `home` that is not spent has a twin.
-    fn has_twin(&self, blocks: &[Block], home: usize) -> bool
-        ensures { result ≡ has_twin twin_of (node self.now) (flat_map (kept_in nodes_in) (elsewhere home blocks.now)) };
-}
-
-impl Node for EntryRecord {
-    ghost node = { entry };
-
-    #[tactic(auto, unfolding(crate::specs::Missed::need))]
-    fn is_needed(&self, blocks: &[Block]) -> bool {
-        is_entry_needed(blocks, self)
-    }
-
-    fn has_twin(&self, blocks: &[Block], home: usize) -> bool {
-        stands_elsewhere(blocks, home, self)
-    }
-}
-
-impl Node for ContentRecord {
-    ghost node = { content };
-
-    #[tactic(auto, unfolding(crate::specs::Missed::need))]
-    fn is_needed(&self, blocks: &[Block]) -> bool {
-        is_content_needed(blocks, self)
-    }
-
-    fn has_twin(&self, blocks: &[Block], home: usize) -> bool {
-        stands_elsewhere(blocks, home, self)
-    }
-}
 
 // Whether a node would be missed without its block `home`: it is needed, and no other block that is not spent has a twin.
 #[tactic(auto, unfolding(crate::specs::Missed::missed))]

@@ -1,7 +1,7 @@
 use Rattle.std.proofs.Common.{sym, ◌∙◌}
 use Rattle.index.specs.Missed.{elsewhere}
 use Rattle.index.proofs.Twins.{content_twins}
-use Rattle.index.proofs.spent.ContentRecordNode.has_twin.Goals as goal
+use Rattle.index.proofs.needed.ContentRecordNode.has_twin.Goals as goal
 
 pub returns : goal.returns
 returns c = c.stands_elsewhere.ensures ∙ sym (content_twins c.args.self.now (elsewhere c.args.home c.args.blocks.now))

@@ -1,6 +1,6 @@
 use Rattle.std.proofs.Common.{◌≡◌, min, length, drop, ap, ◌∙◌, add-one, rules}
 use Rattle.std.proofs.lemmas.List.{take_rest, drop_min, drop-drop}
-use Rattle.index.proofs.spent.others.Goals as goal
+use Rattle.index.proofs.elsewhere.others.Goals as goal
 
 pub returns-clause-above : goal.returns-clause-above
 returns-clause-above c =
