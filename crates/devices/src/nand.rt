@@ -10,7 +10,7 @@ ghost use Rattle.devices.specs.Sizes.{bytes_in, size_of};
 ghost use Rattle.devices.specs.Pages.{flags_laid, flags_wiped};
 ghost use Rattle.devices.specs.Nand.{nand, nand_program, nand_erase, nand_arm};
 
-use crate::bank::Bank;
+use crate::bank::{Bank, Sizes};
 use crate::pages::{Block, NandPage};
 use crate::supply::Cut;
 use flash::interface::Flash;
@@ -21,17 +21,21 @@ use flash::refusal::Refusal;
 pub struct Nand<'a> {
     bank: Bank<'a>,
     lost: [bool; 128],
-    ghost eight: { bank.size ≡ size_of bank.page },
+    ghost eight: { bank.sizes.block ≡ size_of bank.sizes.page },
 }
 
 impl<'a> Nand<'a> {
     // A chip in this memory, with what it holds, all of it readable; or the memory back, if it is not 4 to 16 whole blocks.
     pub fn new(memory: &'a mut [u8], kind: NandPage) -> Result<Nand<'a>, (Refusal, &'a mut [u8])>
-        ensures { MatchResult result (λ f. (holds_blocks (size_of (bytes_in kind)) (length memory.old) ≡ true) × (f.bank.memory.now ≡ memory.old) × (f.bank.page ≡ bytes_in kind) × (f.lost ≡ replicate 128 false) × (f.bank.supply ≡ Supply.Steady)) (λ e. (holds_blocks (size_of (bytes_in kind)) (length memory.old) ≡ false) × (e.0 ≡ Refusal.Memory) × (e.1.now ≡ memory.old)) }
+        ensures { MatchResult result (λ f. (holds_blocks (size_of (bytes_in kind)) (length memory.old) ≡ true) × (f.bank.memory.now ≡ memory.old) × (f.bank.sizes.page ≡ bytes_in kind) × (f.lost ≡ replicate 128 false) × (f.bank.supply ≡ Supply.Steady)) (λ e. (holds_blocks (size_of (bytes_in kind)) (length memory.old) ≡ false) × (e.0 ≡ Refusal.Memory) × (e.1.now ≡ memory.old)) }
     {
         let page = kind.bytes();
+        let sizes = Sizes {
+            page,
+            block: 8 * page,
+        };
         Ok(Nand {
-            bank: Bank::new(memory, page, 8 * page)?,
+            bank: Bank::new(memory, sizes)?,
             lost: [false; 128],
         })
     }
@@ -67,23 +71,23 @@ fn flag_wiped(lost: &mut [bool; 128], block: usize, done: Result<(), Cut>)
 impl Nand<'_> {
     // A block as it stands.
     fn block(&self, block: usize) -> Block<'_>
-        requires { HasBlock self.now.bank.size (length self.now.bank.memory.now) block }
-        ensures bytes { result.bytes.now ≡ part_of (size_of self.now.bank.page) self.now.bank.memory.now block }
+        requires { HasBlock self.now.bank.sizes.block (length self.now.bank.memory.now) block }
+        ensures bytes { result.bytes.now ≡ part_of (size_of self.now.bank.sizes.page) self.now.bank.memory.now block }
         ensures lost { result.lost.now ≡ part_of 8 self.now.lost block }
-        ensures page { result.page ≡ self.now.bank.page }
+        ensures page { result.page ≡ self.now.bank.sizes.page }
     {
         Block {
             bytes: self.bank.block(block),
             lost: &self.lost[block * 8..block * 8 + 8],
-            page: self.bank.page,
+            page: self.bank.sizes.page,
         }
     }
 
     // Where in the memory a program of n bytes begins, or why it is refused.
     fn locate_blank(&self, at: Place, n: usize) -> Result<usize, Refusal>
-        ensures value { result ≡ answered (program_refusal (nand self.now.bank.page self.now.bank.memory.now self.now.lost self.now.bank.supply) at.block at.offset n) (at.block * size_of self.now.bank.page + at.offset) }
-        ensures within { IfOk result (λ from. Within (size_of self.now.bank.page) (length self.now.bank.memory.now) at.block at.offset n from) }
-        ensures there { IfOk result (λ _. HasBlock self.now.bank.size (length self.now.bank.memory.now) at.block) }
+        ensures value { result ≡ answered (program_refusal (nand self.now.bank.sizes.page self.now.bank.memory.now self.now.lost self.now.bank.supply) at.block at.offset n) (at.block * size_of self.now.bank.sizes.page + at.offset) }
+        ensures within { IfOk result (λ from. Within (size_of self.now.bank.sizes.page) (length self.now.bank.memory.now) at.block at.offset n from) }
+        ensures there { IfOk result (λ _. HasBlock self.now.bank.sizes.block (length self.now.bank.memory.now) at.block) }
     {
         let from = self.bank.locate(at, n)?;
         self.bank.allow(at.offset, n, self.block(at.block).mark())?;
@@ -92,8 +96,8 @@ impl Nand<'_> {
 
     // Where in the memory a part of n bytes begins that can be read, or why a read is refused.
     fn locate_read(&self, at: Place, n: usize) -> Result<usize, Refusal>
-        ensures value { result ≡ answered (read_refusal (nand self.now.bank.page self.now.bank.memory.now self.now.lost self.now.bank.supply) at.block at.offset n) (at.block * size_of self.now.bank.page + at.offset) }
-        ensures within { IfOk result (λ from. Within (size_of self.now.bank.page) (length self.now.bank.memory.now) at.block at.offset n from) }
+        ensures value { result ≡ answered (read_refusal (nand self.now.bank.sizes.page self.now.bank.memory.now self.now.lost self.now.bank.supply) at.block at.offset n) (at.block * size_of self.now.bank.sizes.page + at.offset) }
+        ensures within { IfOk result (λ from. Within (size_of self.now.bank.sizes.page) (length self.now.bank.memory.now) at.block at.offset n from) }
     {
         let from = self.bank.locate(at, n)?;
         if self.block(at.block).is_lost(at.offset, n) {
@@ -108,7 +112,7 @@ impl Nand<'_> {
 impl Flash for Nand<'_> {
     ghost use Rattle.devices.specs.SanePages.{nand_sane};
 
-    ghost meaning = { λ s. nand s.bank.page s.bank.memory.now s.lost s.bank.supply };
+    ghost meaning = { λ s. nand s.bank.sizes.page s.bank.memory.now s.lost s.bank.supply };
 
     fn shape(&self) -> Shape {
         self.bank.shape()
@@ -126,12 +130,12 @@ impl Flash for Nand<'_> {
     }
 
     fn program(&mut self, at: Place, bytes: &[u8]) -> Result<(), Refusal>
-        ensures met { Programmed (nand self.old.bank.page self.old.bank.memory.now self.old.lost self.old.bank.supply) at.block at.offset bytes.now result (nand self.new.bank.page self.new.bank.memory.now self.new.lost self.new.bank.supply) }
-        ensures exact { outcome result (self.new.bank.memory.now, self.new.lost) self.new.bank.supply ≡ nand_program self.old.bank.page self.old.bank.memory.now self.old.lost self.old.bank.supply at.block at.offset bytes.now }
-        ensures same { self.new.bank.page ≡ self.old.bank.page }
+        ensures met { Programmed (nand self.old.bank.sizes.page self.old.bank.memory.now self.old.lost self.old.bank.supply) at.block at.offset bytes.now result (nand self.new.bank.sizes.page self.new.bank.memory.now self.new.lost self.new.bank.supply) }
+        ensures exact { outcome result (self.new.bank.memory.now, self.new.lost) self.new.bank.supply ≡ nand_program self.old.bank.sizes.page self.old.bank.memory.now self.old.lost self.old.bank.supply at.block at.offset bytes.now }
+        ensures same { self.new.bank.sizes.page ≡ self.old.bank.sizes.page }
     {
         let from = self.locate_blank(at, bytes.len())?;
-        let page = self.bank.page;
+        let page = self.bank.sizes.page;
         let done = self.bank.lay(from, bytes);
         flag_laid(
             &mut self.lost,
@@ -144,9 +148,9 @@ impl Flash for Nand<'_> {
     }
 
     fn erase(&mut self, block: usize) -> Result<(), Refusal>
-        ensures met { Erased (nand self.old.bank.page self.old.bank.memory.now self.old.lost self.old.bank.supply) block result (nand self.new.bank.page self.new.bank.memory.now self.new.lost self.new.bank.supply) }
-        ensures exact { outcome result (self.new.bank.memory.now, self.new.lost) self.new.bank.supply ≡ nand_erase self.old.bank.page self.old.bank.memory.now self.old.lost self.old.bank.supply block }
-        ensures same { self.new.bank.page ≡ self.old.bank.page }
+        ensures met { Erased (nand self.old.bank.sizes.page self.old.bank.memory.now self.old.lost self.old.bank.supply) block result (nand self.new.bank.sizes.page self.new.bank.memory.now self.new.lost self.new.bank.supply) }
+        ensures exact { outcome result (self.new.bank.memory.now, self.new.lost) self.new.bank.supply ≡ nand_erase self.old.bank.sizes.page self.old.bank.memory.now self.old.lost self.old.bank.supply block }
+        ensures same { self.new.bank.sizes.page ≡ self.old.bank.sizes.page }
     {
         self.bank.locate(Place { block, offset: 0 }, 0)?;
         let done = self.bank.clear(block);
@@ -156,19 +160,19 @@ impl Flash for Nand<'_> {
     }
 
     fn arm(&mut self, steps: usize, fault: u8) -> Result<(), Refusal>
-        ensures met { Armed (nand self.old.bank.page self.old.bank.memory.now self.old.lost self.old.bank.supply) result (nand self.new.bank.page self.new.bank.memory.now self.new.lost self.new.bank.supply) }
+        ensures met { Armed (nand self.old.bank.sizes.page self.old.bank.memory.now self.old.lost self.old.bank.supply) result (nand self.new.bank.sizes.page self.new.bank.memory.now self.new.lost self.new.bank.supply) }
         ensures exact { outcome result (self.new.bank.memory.now, self.new.lost) self.new.bank.supply ≡ nand_arm self.old.bank.memory.now self.old.lost self.old.bank.supply steps fault }
-        ensures same { self.new.bank.page ≡ self.old.bank.page }
+        ensures same { self.new.bank.sizes.page ≡ self.old.bank.sizes.page }
     {
         self.bank.arm(steps, fault)
     }
 
     fn restart(&mut self)
-        ensures met { Restarted (nand self.old.bank.page self.old.bank.memory.now self.old.lost self.old.bank.supply) (nand self.new.bank.page self.new.bank.memory.now self.new.lost self.new.bank.supply) }
-        ensures exact { (self.new.bank.memory.now ≡ self.old.bank.memory.now) × (self.new.bank.page ≡ self.old.bank.page) × (self.new.lost ≡ self.old.lost) × (self.new.bank.supply ≡ Supply.Steady) }
+        ensures met { Restarted (nand self.old.bank.sizes.page self.old.bank.memory.now self.old.lost self.old.bank.supply) (nand self.new.bank.sizes.page self.new.bank.memory.now self.new.lost self.new.bank.supply) }
+        ensures exact { (self.new.bank.memory.now ≡ self.old.bank.memory.now) × (self.new.bank.sizes.page ≡ self.old.bank.sizes.page) × (self.new.lost ≡ self.old.lost) × (self.new.bank.supply ≡ Supply.Steady) }
     {
         self.bank.power_up();
     }
 
-    ghost sane = { λ flash. nand_sane flash.bank.page flash.bank.size flash.bank.some flash.eight flash.bank.few flash.bank.memory.now flash.lost flash.bank.supply };
+    ghost sane = { λ flash. nand_sane flash.bank.sizes.page flash.bank.sizes.block flash.bank.some flash.eight flash.bank.few flash.bank.memory.now flash.lost flash.bank.supply };
 }

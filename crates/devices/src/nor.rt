@@ -7,21 +7,21 @@ ghost use Rattle.devices.specs.declared.supply.Supply.{Supply};
 ghost use Rattle.devices.specs.Bank.{HasBlock, holds_blocks, outcome};
 ghost use Rattle.devices.specs.Nor.{SIZE, mark_of, nor, nor_program, nor_erase, nor_arm};
 
-use crate::bank::Bank;
+use crate::bank::{Bank, Sizes};
 use flash::bytes::reach;
 use flash::interface::Flash;
 use flash::place::{Place, Shape};
 use flash::refusal::Refusal;
 
-const BLOCK: usize = 4096;
-
 const PAGE: usize = 4;
+
+const BLOCK: usize = 4096;
 
 #[derive(Drop)]
 pub struct Nor<'a> {
     bank: Bank<'a>,
-    ghost page: { bank.page ≡ 4 },
-    ghost size: { bank.size ≡ 4096 },
+    ghost page: { bank.sizes.page ≡ 4 },
+    ghost block: { bank.sizes.block ≡ 4096 },
 }
 
 impl<'a> Nor<'a> {
@@ -29,8 +29,12 @@ impl<'a> Nor<'a> {
     pub fn new(memory: &'a mut [u8]) -> Result<Nor<'a>, (Refusal, &'a mut [u8])>
         ensures { MatchResult result (λ f. (holds_blocks 4096 (length memory.old) ≡ true) × (f.bank.memory.now ≡ memory.old) × (f.bank.supply ≡ Supply.Steady)) (λ e. (holds_blocks 4096 (length memory.old) ≡ false) × (e.0 ≡ Refusal.Memory) × (e.1.now ≡ memory.old)) }
     {
+        let sizes = Sizes {
+            page: PAGE,
+            block: BLOCK,
+        };
         Ok(Nor {
-            bank: Bank::new(memory, PAGE, BLOCK)?,
+            bank: Bank::new(memory, sizes)?,
         })
     }
 }
@@ -38,7 +42,7 @@ impl<'a> Nor<'a> {
 impl Nor<'_> {
     // The end of the last page of a block that is not all 0xFF.
     fn mark_of(&self, block: usize) -> usize
-        requires { HasBlock self.now.bank.size (length self.now.bank.memory.now) block }
+        requires { HasBlock self.now.bank.sizes.block (length self.now.bank.memory.now) block }
         ensures { result ≡ mark_of (part_of SIZE self.now.bank.memory.now block) }
     {
         reach(self.bank.block(block)).next_multiple_of(PAGE)

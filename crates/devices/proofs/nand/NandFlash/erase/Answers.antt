@@ -15,10 +15,10 @@ returns-in_err-done c =
     let p = err_from_is_err_and c.from_residual-in_err-done.result c.from_residual-in_err-done.ensures.1 in
     let l = c.clear-done.ensures in
     let e = erased_is _ _ _ _ _ c.args.self.now.eight (search rules) _ _ _ c.in_ok-locate.ensures.value _ _ _ _ _ c.in_err-done.was l.value l.left l.memory c.flag_wiped.ensures in
-    rw (p.1, p.2, l.same.0) (record { met = erase_meets _ _ _ _ _ _ e; exact = e; same = refl })
+    rw (p.1, p.2, l.same) (record { met = erase_meets _ _ _ _ _ _ e; exact = e; same = refl })
 
 pub returns : goal.returns
 returns c =
     let l = c.clear-done.ensures in
     let e = erased_is _ _ _ _ _ c.args.self.now.eight (search rules) _ _ _ c.in_ok-locate.ensures.value _ _ _ _ _ c.in_ok-done.was l.value l.left l.memory c.flag_wiped.ensures in
-    rw l.same.0 (record { met = erase_meets _ _ _ _ _ _ e; exact = e; same = refl })
+    rw l.same (record { met = erase_meets _ _ _ _ _ _ e; exact = e; same = refl })

@@ -21,11 +21,11 @@ returns-in_err-done c =
     let w = c.in_ok-from.ensures in
     let l = c.lay-done.ensures in
     let e = programmed_is _ _ _ _ _ _ _ _ _ w.value w.within.0 _ _ _ _ _ c.in_err-done.was l.value l.left l.memory c.flag_laid.ensures in
-    rw (p.1, p.2, l.same.0) (record { met = program_meets _ c.args.self.now.bank.some _ _ _ _ _ _ _ e; exact = e; same = refl })
+    rw (p.1, p.2, l.same) (record { met = program_meets _ c.args.self.now.bank.some _ _ _ _ _ _ _ e; exact = e; same = refl })
 
 pub returns : goal.returns
 returns c =
     let w = c.in_ok-from.ensures in
     let l = c.lay-done.ensures in
     let e = programmed_is _ _ _ _ _ _ _ _ _ w.value w.within.0 _ _ _ _ _ c.in_ok-done.was l.value l.left l.memory c.flag_laid.ensures in
-    rw l.same.0 (record { met = program_meets _ c.args.self.now.bank.some _ _ _ _ _ _ _ e; exact = e; same = refl })
+    rw l.same (record { met = program_meets _ c.args.self.now.bank.some _ _ _ _ _ _ _ e; exact = e; same = refl })

@@ -8,17 +8,17 @@ pub returns-in_err-from-clause-value : goal.returns-in_err-from-clause-value
 unfolding nor
 returns-in_err-from-clause-value c =
     let p = err_from_is_err_and c.from_residual.result c.from_residual.ensures.1 in
-    rw (p.1, p.2) (program_by _ _ _ _ _ _ _ _ _ _ _ (placed_is _ _ _ _ _ _ c.args.self.now.size) _ _ _ c.in_err-from.ensures.value)
+    rw (p.1, p.2) (program_by _ _ _ _ _ _ _ _ _ _ _ (placed_is _ _ _ _ _ _ c.args.self.now.block) _ _ _ c.in_err-from.ensures.value)
 
 pub returns-in_err-allow-clause-value : goal.returns-in_err-allow-clause-value
 unfolding nor
 returns-in_err-allow-clause-value c =
     let p = err_from_is_err_and c.from_residual-in_err-allow.result c.from_residual-in_err-allow.ensures.1 in
-    rw (p.1, p.2) (program_not _ _ _ _ _ _ _ _ _ _ _ (placed_is _ _ _ _ _ _ c.args.self.now.size) _ _ c.in_ok-from.ensures.value _ _ c.args.self.now.page c.mark_of.ensures _ _ c.in_err-allow.ensures)
+    rw (p.1, p.2) (program_not _ _ _ _ _ _ _ _ _ _ _ (placed_is _ _ _ _ _ _ c.args.self.now.block) _ _ c.in_ok-from.ensures.value _ _ c.args.self.now.page c.mark_of.ensures _ _ c.in_err-allow.ensures)
 
 pub returns-clause-value : goal.returns-clause-value
 unfolding nor
 returns-clause-value c =
     let w = c.in_ok-from.ensures in
-    rw (w.within.0, c.args.self.now.size)
-    (program_may _ _ _ _ _ _ _ _ _ _ _ (placed_is _ _ _ _ _ _ c.args.self.now.size) _ _ w.value _ _ c.args.self.now.page c.mark_of.ensures _ c.in_ok-allow.ensures)
+    rw (w.within.0, c.args.self.now.block)
+    (program_may _ _ _ _ _ _ _ _ _ _ _ (placed_is _ _ _ _ _ _ c.args.self.now.block) _ _ w.value _ _ c.args.self.now.page c.mark_of.ensures _ c.in_ok-allow.ensures)

@@ -8,9 +8,9 @@ pub returns-in_err-locate : goal.returns-in_err-locate
 unfolding nor
 returns-in_err-locate c =
     let p = err_from_is_err_and c.from_residual.result c.from_residual.ensures.1 in
-    rw (p.1, p.2) (mark_unseen _ _ _ _ _ _ _ _ _ _ _ (placed_is _ _ _ _ _ _ c.args.self.now.size) c.in_err-locate.ensures.value)
+    rw (p.1, p.2) (mark_unseen _ _ _ _ _ _ _ _ _ _ _ (placed_is _ _ _ _ _ _ c.args.self.now.block) c.in_err-locate.ensures.value)
 
 pub returns : goal.returns
 unfolding nor
 returns c =
-    mark_seen _ _ _ _ _ _ _ _ _ (not_place _ _ _ _ _ _ _ _ _ _ _ (placed_is _ _ _ _ _ _ c.args.self.now.size) _ _ c.in_ok-locate.ensures.value) c.mark_of.ensures
+    mark_seen _ _ _ _ _ _ _ _ _ (not_place _ _ _ _ _ _ _ _ _ _ _ (placed_is _ _ _ _ _ _ c.args.self.now.block) _ _ c.in_ok-locate.ensures.value) c.mark_of.ensures

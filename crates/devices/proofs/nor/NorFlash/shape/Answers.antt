@@ -8,4 +8,4 @@ unfolding nor chip SIZE
 returns c =
     let self = c.args.self.now in
     let s = c.shape.ensures in
-    (s.blocks ∙ ap (λ n. blocks_in n (length self.bank.memory.now)) self.size, s.size ∙ self.size, s.pages.0 ∙ self.page, s.pages.1 ∙ self.page)
+    (s.blocks ∙ ap (λ n. blocks_in n (length self.bank.memory.now)) self.block, s.size ∙ self.block, s.pages.0 ∙ self.page, s.pages.1 ∙ self.page)
