@@ -5,7 +5,7 @@
 -- raised, marks    the marks: those below, rounded up to a batch; that of the block with the held batch is where its bytes end
 -- Fills            a batch may be held at a place: it begins where a batch begins, at or above the mark below, has a byte
 --                  that is not 0xFF, and its last word is 0xFF
--- Holding          what a state says of the held bytes
+-- Holding          what a state says of the held bytes; Holding-prop: there is one proof of it at most, as a ghost field needs
 -- Bearing          a flash that a write buffer can lie on
 -- Sound            how a write buffer and the flash below fit, which the type of a write buffer says
 -- Near             no batch is held, or that of a place
@@ -53,7 +53,6 @@ abbrev pub Holding : Meaning → State → List ℕ → Type 0
 Holding m Empty held = used held ≡ 0
 Holding m (Filling start) held = Fills m start.block start.offset held
 
--- there is one proof of it at most
 pub Holding-prop : (m : Meaning) (st : State) (held : List ℕ) → IsProp (Holding m st held)
 Holding-prop m Empty held = hlevel props
 Holding-prop m (Filling start) held = hlevel props

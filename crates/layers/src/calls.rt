@@ -81,7 +81,7 @@ impl<F: Flash> Flash for WriteBuffer<F> {
 
     fn program(&mut self, at: Place, bytes: &[u8]) -> Result<(), Refusal> {
         if let Some(start) = self.admit(at, bytes.len())? {
-            self.empty(start)?;
+            self.pass_down(start)?;
         }
         self.lay(Run { at, bytes })
     }

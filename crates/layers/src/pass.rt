@@ -12,7 +12,7 @@ use flash::place::Place;
 use flash::refusal::Refusal;
 
 impl<F: Flash> WriteBuffer<F> {
-    // Passes bytes down to a place. Nothing is held after it.
+    // Programs whole batches below. Nothing is held after it, also where the power failed.
     fn send(&mut self, to: Place, bytes: &[u8]) -> Result<(), Refusal>
         ensures batch { self.new.batch ≡ self.old.batch }
         ensures state { self.new.state ≡ State.Empty }
@@ -25,7 +25,7 @@ impl<F: Flash> WriteBuffer<F> {
     }
 
     // Passes the held batch down, before a run behind it.
-    pub(crate) fn empty(&mut self, start: Place) -> Result<(), Refusal>
+    pub(crate) fn pass_down(&mut self, start: Place) -> Result<(), Refusal>
         ensures batch { self.new.batch ≡ self.old.batch }
         ensures state { self.new.state ≡ State.Empty }
         ensures down { Programmed (F.meaning self.old.below) start.block start.offset (take self.old.batch self.old.held) result (F.meaning self.new.below) }
