@@ -1,4 +1,5 @@
 // What the index keeps of a node: where it stands, how long it is, and the fields that are looked at. Data stays on the flash.
+// The reader's records borrow from the block and have no place; one struct for both would put each field a step further away.
 use crate::name::Name;
 use flash::place::Place;
 

@@ -1,5 +1,5 @@
 // The two kinds of node, read from all their bytes. A node passes if its fields and its name or data lie within it and
-// their sums are right.
+// their sums are right. Two readers, as each field and both sums stand at other offsets.
 ghost use Rattle.std.specs.Prelude.{◌≡◌, length};
 ghost use Rattle.nodes.specs.Items.{totlen};
 ghost use Rattle.nodes.specs.Passing.{entry_in, content_in, entry_read, content_read};
