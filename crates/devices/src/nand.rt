@@ -26,7 +26,8 @@ pub struct Nand<'a> {
 }
 
 impl<'a> Nand<'a> {
-    // A chip in this memory, with what it holds, all of it readable; or the memory back, if it is not 4 to 16 whole blocks.
+    // A chip in this memory, with what it holds, all of it readable; or the memory back, if it is not 4 to 16 whole blocks. A
+    // refusal and what comes back are a pair, as they are matched at once.
     pub fn new(memory: &'a mut [u8], kind: NandPage) -> Result<Nand<'a>, (Refusal, &'a mut [u8])>
         ensures { MatchResult result (λ f. (holds_blocks (size_of (bytes_in kind)) (length memory.old) ≡ true) × (f.bank.memory.now ≡ memory.old) × (f.bank.sizes.page ≡ bytes_in kind) × (f.lost ≡ replicate 128 false) × (f.bank.supply ≡ Supply.Steady)) (λ e. (holds_blocks (size_of (bytes_in kind)) (length memory.old) ≡ false) × (e.0 ≡ Refusal.Memory) × (e.1.now ≡ memory.old)) }
     {

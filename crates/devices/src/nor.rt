@@ -25,7 +25,8 @@ pub struct Nor<'a> {
 }
 
 impl<'a> Nor<'a> {
-    // A chip in this memory, with what it holds; or the memory back, if it is not 4 to 16 whole blocks.
+    // A chip in this memory, with what it holds; or the memory back, if it is not 4 to 16 whole blocks. A refusal and what comes
+    // back are a pair, as they are matched at once.
     pub fn new(memory: &'a mut [u8]) -> Result<Nor<'a>, (Refusal, &'a mut [u8])>
         ensures { MatchResult result (λ f. (holds_blocks 4096 (length memory.old) ≡ true) × (f.bank.memory.now ≡ memory.old) × (f.bank.supply ≡ Supply.Steady)) (λ e. (holds_blocks 4096 (length memory.old) ≡ false) × (e.0 ≡ Refusal.Memory) × (e.1.now ≡ memory.old)) }
     {
@@ -60,7 +61,7 @@ impl Nor<'_> {
 }
 
 // Beyond the interface, `exact` says what it leaves open: how many steps are left after a call, and which page or block
-// fails with which bytes.
+// fails with which bytes. What the chips share is in the bank; the calls put it together with flags and marks, each their own.
 impl Flash for Nor<'_> {
     ghost use Rattle.devices.specs.Sane.{nor_sane};
 

@@ -1,4 +1,5 @@
-// What is looked up among the entries: names, and what they stand for.
+// What is looked up among the entries: names, and what they stand for. A directory and a name are two arguments, as a struct would
+// be made for each call and taken apart at once.
 ghost use Rattle.std.specs.Prelude.{◌≡◌};
 ghost use Rattle.tree.specs.Lookups.{title, counts, named};
 ghost use Rattle.index.specs.Blocks.{all_entries};

@@ -17,7 +17,7 @@ pub struct EntryRecord {
 }
 
 // A length of a file, and `dsize` bytes of it at `offset`, which a hole gives as zeros. A hole gives its bytes as any content
-// does, so it is a flag and no variant.
+// does, so it is a flag and no variant; the mode is kept as it stands on the flash.
 #[derive(Clone, Copy)]
 pub struct ContentRecord {
     pub place: Place,

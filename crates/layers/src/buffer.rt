@@ -6,7 +6,8 @@ ghost use Rattle.layers.specs.Buffered.{Holding, Holding-prop};
 use flash::interface::Flash;
 use flash::place::Place;
 
-// Nothing is held, or a batch that begins at a place. The rules name a buffer empty or filling, so it is no `Option`.
+// Nothing is held, or a batch that begins at a place. These are the two states of a buffer in docs/FLASH.md, section 8, by
+// their names, which an `Option` would not have.
 #[derive(Clone, Copy)]
 pub enum State {
     Empty,

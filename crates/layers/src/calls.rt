@@ -15,7 +15,8 @@ use flash::place::{Place, Shape};
 use flash::refusal::Refusal;
 
 impl<F: Flash> WriteBuffer<F> {
-    // An empty buffer over a flash whose page is a batch, of whole words and at most 512 bytes; else the flash comes back.
+    // An empty buffer over a flash whose page is a batch, of whole words and at most 512 bytes; else the flash comes back. A
+    // refusal and what comes back are a pair, as they are matched at once.
     pub fn new(below: F) -> Result<WriteBuffer<F>, (Refusal, F)>
         ensures { MatchResult result (λ w. (w.below ≡ below) × (w.state ≡ State.Empty) × (suits (F.meaning below).page (F.meaning below).batch ≡ true)) (λ e. (e.0 ≡ Refusal.Shape) × (e.1 ≡ below) × (suits (F.meaning below).page (F.meaning below).batch ≡ false)) }
     {
@@ -31,7 +32,8 @@ impl<F: Flash> WriteBuffer<F> {
         })
     }
 
-    // Where the batch begins that a program of n bytes passes down first, if any; or why the program is refused.
+    // Where the batch begins that a program of n bytes passes down first, if any; or why the program is refused. A chip tests its
+    // bounds in the same order; a function for both, on a `Shape`, would have to say something of pages of 0 bytes.
     fn admit(&self, at: Place, n: usize) -> Result<Option<Place>, Refusal>
         ensures refused { IfErr result (λ e. program_refusal (means self.now) at.block at.offset n ≡ Some e) }
         ensures accepted { IfOk result (λ _. program_refusal (means self.now) at.block at.offset n ≡ None) }

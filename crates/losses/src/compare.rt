@@ -20,7 +20,8 @@ pub(crate) fn counted_of(item: Item<'_>) -> usize
     }
 }
 
-// Whether the n bytes at a place can be read in both blocks and are the same.
+// Whether the n bytes at a place can be read in both blocks and are the same. Of the two images neither belongs to the other, so
+// they are no struct.
 pub(crate) fn are_same(want: Image<'_>, got: Image<'_>, at: usize, n: usize) -> bool
     requires want { at ≤ length want.bytes.now }
     requires got { at ≤ length got.bytes.now }

@@ -3,7 +3,7 @@ ghost use Rattle.std.specs.Prelude.{◌≡◌, ◌+◌};
 ghost use Rattle.nodes.specs.Fields.{padded};
 ghost use Rattle.nodes.specs.Headers.{head_shown, head_of, passing};
 
-// What a header says, and the bytes behind it.
+// What a header says, and the bytes behind it. The kind is a number, as kinds that we do not know pass too.
 #[derive(Clone, Copy)]
 pub struct Header<'a> {
     pub kind: u16,
