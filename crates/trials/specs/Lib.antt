@@ -1,2 +1,4 @@
 pub mod Congruence
 pub mod Digests
+pub mod Numbers
+pub mod Samples

@@ -2,6 +2,7 @@
 ghost use Rattle.std.specs.Prelude.{◌≡◌, ◌+◌, ◌-◌, ◌^◌, min, None, IsSome};
 ghost use Rattle.nodes.specs.Offences.{offence_of};
 ghost use Rattle.nodes.specs.Views.{item_shown};
+ghost use Rattle.trials.specs.Numbers.{offence_number};
 
 use flash::refusal::Refusal;
 use nodes::reader::Found;
@@ -27,5 +28,11 @@ impl Met {
             last: found.place.offset,
             offence: self.offence.or(found.item.offence()),
         }
+    }
+    // The number of the first offence, 0 where there is none.
+    pub fn offence_number(self) -> u8
+        ensures { result ≡ offence_number self.offence }
+    {
+        self.offence.map_or(0, u8::from)
     }
 }

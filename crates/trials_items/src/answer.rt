@@ -17,7 +17,7 @@ impl Answer {
         match self {
             Answer::Laid { size, digest } => [size.unwrap_or(9999), digest, 0, 0],
             Answer::Walked { met, digest } => {
-                let offence = met.offence.map_or(0, u8::from);
+                let offence = met.offence_number();
                 [met.items, met.last, usize::from(offence), digest]
             }
             Answer::Sum(sum) => [sum as usize, 0, 0, 0],

@@ -1,8 +1,7 @@
 // The lines of a script.
 use nodes::record::{Content, Entry};
 use std::array;
-use std::num::ParseIntError;
-use std::str::FromStr;
+use trials::sample::{content, entry};
 
 // What a line asks for.
 #[derive(Clone, Copy)]
@@ -38,31 +37,17 @@ pub(crate) enum Command<'a> {
 }
 
 // The number that a word stands for, or 0.
-fn number<N: FromStr<Err = ParseIntError> + Default>(word: &str) -> N {
-    word.parse().unwrap_or_default()
+fn number(word: &str) -> usize {
+    word.parse().unwrap_or(0)
 }
 
-fn entry<'a>(ino: &str, dtype: &str, name: &'a str) -> Entry<'a> {
-    Entry {
-        pino: 1,
-        version: 3,
-        ino: number(ino),
-        dtype: number(dtype),
-        name: name.as_bytes(),
-    }
+// The low bits of the number that a word stands for, as many as a field of 32 bits or of 8 has.
+fn word32(word: &str) -> u32 {
+    (number(word) & 0xffffffff) as u32
 }
 
-fn content<'a>(dsize: &str, compr: &str, text: &'a str) -> Content<'a> {
-    Content {
-        ino: 2,
-        version: 4,
-        mode: 33188,
-        isize: 1000,
-        offset: 100,
-        dsize: number(dsize),
-        compr: number(compr),
-        payload: text.as_bytes(),
-    }
+fn word8(word: &str) -> u8 {
+    (number(word) & 0xff) as u8
 }
 
 // A line has a verb, two numbers, and what stands behind these. Any word that is no verb is that of a new block.
@@ -82,8 +67,8 @@ pub(crate) fn parse(line: &str) -> Command<'_> {
             page: number(first),
         },
         "marker" => Command::Marker,
-        "entry" => Command::Entry(entry(first, second, rest)),
-        "content" => Command::Content(content(first, second, rest)),
+        "entry" => Command::Entry(entry(word32(first), word8(second), rest.as_bytes())),
+        "content" => Command::Content(content(word32(first), word8(second), rest.as_bytes())),
         "filling" => Command::Filling {
             end: number(first),
             batch: number(second),

@@ -2,7 +2,7 @@
 // then.
 use crate::case::{Base, Case, FIRST, Word};
 use crate::image::BLOCK;
-use crate::tally::{offence_number, tally};
+use crate::tally::tally;
 use std::fmt;
 use trials::digest::{Digest, digest_of};
 use trials::random::Random;
@@ -60,7 +60,7 @@ fn turn(rt: &HostRuntime, random: &mut Random, seen: Seen) -> anyhow::Result<See
         _ => Case("random", base, FIRST, &[one, two], &[]).image(rt.alloc())?,
     };
     let met = tally(&block);
-    let number = offence_number(met);
+    let number = met.offence_number();
     Ok(Seen {
         all: seen
             .all

@@ -3,8 +3,8 @@ use crate::case::{Base, Case, Word};
 use crc32::sum_of;
 use encode::filler::marker;
 use encode::node::encode;
-use nodes::record::{Content, Entry};
 use std::alloc::{AllocError, Global};
+use trials::sample::{content, entry};
 
 pub(crate) const BLOCK: usize = 4096;
 
@@ -53,37 +53,12 @@ fn mend(item: &mut [u8]) {
     }
 }
 
-// An entry that is as it should be.
-fn entry(ino: u32, dtype: u8) -> Entry<'static> {
-    Entry {
-        pino: 1,
-        version: 3,
-        ino,
-        dtype,
-        name: b"ab",
-    }
-}
-
-// A content that is as it should be: a hole where it has no payload.
-fn content(dsize: u32, compr: u8, payload: &'static [u8]) -> Content<'static> {
-    Content {
-        ino: 2,
-        version: 4,
-        mode: 33188,
-        isize: 1000,
-        offset: 100,
-        dsize,
-        compr,
-        payload,
-    }
-}
-
 // Makes the item of a base, and answers its size if it has one.
 fn make(base: Base, out: &mut [u8]) -> Option<usize> {
     match base {
         Base::Blank | Base::Bare => None,
-        Base::File => encode(&entry(2, 8), out),
-        Base::Removal => encode(&entry(0, 0), out),
+        Base::File => encode(&entry(2, 8, b"ab"), out),
+        Base::Removal => encode(&entry(0, 0, b"ab"), out),
         Base::Plain => encode(&content(5, 0, b"hello"), out),
         Base::Hole => encode(&content(300, 1, b""), out),
     }

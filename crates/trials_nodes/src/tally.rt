@@ -15,11 +15,6 @@ pub(crate) fn tally(bytes: &[u8]) -> Met {
     Reader::new(0, image).fold(Met::default(), |met, found| met.with(&found))
 }
 
-// The number of the first offence, 0 where there is none.
-pub(crate) fn offence_number(met: Met) -> u8 {
-    met.offence.map_or(0, u8::from)
-}
-
 // Tries a case, and prints a digest of its block, as the model has to speak of the same bytes, and what the walk met.
 fn try_case(rt: &HostRuntime, case: &Case<'_>) -> anyhow::Result<()> {
     let Case(label, ..) = case;
@@ -27,7 +22,7 @@ fn try_case(rt: &HostRuntime, case: &Case<'_>) -> anyhow::Result<()> {
     let digest: u32 = digest_of(&block);
     let met = tally(&block);
     let Met { items, last, .. } = met;
-    let offence = offence_number(met);
+    let offence = met.offence_number();
     println!(rt; "{label}: block {digest:08x}, items {items}, last at {last}, offence {offence}")?;
     Ok(())
 }

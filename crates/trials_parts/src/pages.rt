@@ -6,28 +6,9 @@ use kinds::Kind;
 use nodes::image::Image;
 use nodes::item::Item;
 use nodes::reader::Reader;
-use nodes::record::{Content, Entry};
+use trials::sample::{content, entry};
 
 const BLOCK: usize = 4096;
-
-static ENTRY: Entry<'static> = Entry {
-    pino: 1,
-    version: 3,
-    ino: 2,
-    dtype: 8,
-    name: b"ab",
-};
-
-static CONTENT: Content<'static> = Content {
-    ino: 2,
-    version: 4,
-    mode: 33188,
-    isize: 1000,
-    offset: 100,
-    dsize: 5,
-    compr: 0,
-    payload: b"hello",
-};
 
 // The pages up to some past the last item.
 const PAGES: usize = 41;
@@ -126,9 +107,9 @@ fn with_few(rt: &HostRuntime, block: &[u8]) -> anyhow::Result<()> {
 // Lays the marker, an entry, padding, a content and a zero word into a block.
 fn lay_items(block: &mut [u8; BLOCK]) {
     let _ = marker(block);
-    let _ = encode(&ENTRY, &mut block[12..]);
+    let _ = encode(&entry(2, 8, b"ab"), &mut block[12..]);
     let _ = filling(&mut block[56..], 56, 72);
-    let _ = encode(&CONTENT, &mut block[72..]);
+    let _ = encode(&content(5, 0, b"hello"), &mut block[72..]);
     block[148..152].fill(0);
 }
 
