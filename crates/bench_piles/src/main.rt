@@ -15,7 +15,7 @@ use flash::interface::Flash;
 use flash::refusal::Refusal;
 use layers::buffer::WriteBuffer;
 use std::io;
-use story::{Loss, perform};
+use story::{Cut, perform};
 use task::Task;
 
 // The bytes of a card of 8 blocks.
@@ -32,7 +32,7 @@ fn on_nor(rt: &HostRuntime, memory: &mut [u8]) -> io::Result<()> {
         Ok(card) => card,
         Err((refusal, _)) => return refused(rt, "NOR", refusal),
     };
-    let in_word = Loss::Cut {
+    let in_word = Cut {
         what: "arm, 9 steps succeed and the next takes the fault 0x10",
         steps: 9,
         fault: 0x10,
@@ -40,29 +40,29 @@ fn on_nor(rt: &HostRuntime, memory: &mut [u8]) -> io::Result<()> {
     perform(
         &mut Task::new(rt, card),
         "NOR, power cut in a word",
-        in_word,
+        Some(in_word),
     )
 }
 
 fn on_pages<F: Flash + Drop>(rt: &HostRuntime, card: F) -> io::Result<()> {
-    let in_page = Loss::Cut {
+    let in_page = Cut {
         what: "arm, the next step takes the fault 0x10",
         steps: 0,
         fault: 0x10,
     };
-    let off_page = Loss::Cut {
+    let off_page = Cut {
         what: "arm, the next step takes the fault 0x11, which is odd",
         steps: 0,
         fault: 0x11,
     };
     let mut task = Task::new(rt, card);
-    for (title, loss) in [
-        ("restart while bytes are held", Loss::Held),
-        ("power cut in a page", in_page),
-        ("power cut that makes a page unreadable", off_page),
+    for (title, cut) in [
+        ("restart while bytes are held", None),
+        ("power cut in a page", Some(in_page)),
+        ("power cut that makes a page unreadable", Some(off_page)),
     ] {
         print!(rt; "\nwrite buffer on NAND, ")?;
-        perform(&mut task, title, loss)?;
+        perform(&mut task, title, cut)?;
     }
     Ok(())
 }

@@ -12,17 +12,12 @@ const TOP: u32 = 2;
 
 const TRACK: u32 = 3;
 
-// Where the power goes.
+// A cut of the power in the step after so many, with a fault.
 #[derive(Clone, Copy)]
-pub(crate) enum Loss {
-    // by a restart, while bytes are held
-    Held,
-    // in the step after so many, with a fault
-    Cut {
-        what: &'static str,
-        steps: usize,
-        fault: u8,
-    },
+pub(crate) struct Cut {
+    pub(crate) what: &'static str,
+    pub(crate) steps: usize,
+    pub(crate) fault: u8,
 }
 
 // A directory, a file in it, and what the file holds.
@@ -48,31 +43,33 @@ fn more<F: Flash + Drop>(task: &mut Task<'_, F>) -> io::Result<()> {
     task.lay_node("27 bytes more", &content)
 }
 
-fn lose<F: Flash + Drop>(task: &mut Task<'_, F>, loss: Loss) -> io::Result<()> {
-    match loss {
-        Loss::Held => {
-            more(task)?;
-            task.survey()
-        }
-        Loss::Cut { what, steps, fault } => {
-            task.arm(what, steps, fault)?;
-            more(task)?;
-            task.sync()?;
-            task.erase()?;
-            task.mark()
-        }
-    }
+// More of the file, and the power is cut while that settles.
+fn cut_more<F: Flash + Drop>(task: &mut Task<'_, F>, cut: Cut) -> io::Result<()> {
+    task.arm(cut.what, cut.steps, cut.fault)?;
+    more(task)?;
+    task.sync()?;
+    task.erase()?;
+    task.mark()
 }
 
-// The task on any flash, with a loss in it.
+// More of the file, as it can be read before it settles.
+fn hold_more<F: Flash + Drop>(task: &mut Task<'_, F>) -> io::Result<()> {
+    more(task)?;
+    task.survey()
+}
+
+// The task on any flash, with a cut in it, or with a restart while bytes are held.
 pub(crate) fn perform<F: Flash + Drop>(
     task: &mut Task<'_, F>,
     title: &str,
-    loss: Loss,
+    cut: Option<Cut>,
 ) -> io::Result<()> {
     task.begin(title)?;
     fill(task)?;
-    lose(task, loss)?;
+    match cut {
+        Some(cut) => cut_more(task, cut)?,
+        None => hold_more(task)?,
+    }
     task.restart()?;
     task.mark()?;
     task.survey()

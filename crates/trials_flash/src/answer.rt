@@ -20,7 +20,8 @@ pub(crate) enum Values {
 pub(crate) enum Answer {
     // the line asks for no call, or for no flash
     NotUnderstood,
-    Called(Result<(), Refusal>, Values),
+    Done(Values),
+    Refused(Refusal, Values),
 }
 
 impl Values {
@@ -43,18 +44,18 @@ impl Values {
     }
 }
 
-impl From<Result<(), Refusal>> for Answer {
-    fn from(answer: Result<(), Refusal>) -> Answer {
-        Answer::Called(answer, Values::Nothing)
+impl From<Result<Values, Refusal>> for Answer {
+    fn from(answer: Result<Values, Refusal>) -> Answer {
+        match answer {
+            Ok(values) => Answer::Done(values),
+            Err(refusal) => Answer::Refused(refusal, Values::Nothing),
+        }
     }
 }
 
-impl From<Result<usize, Refusal>> for Answer {
-    fn from(answer: Result<usize, Refusal>) -> Answer {
-        match answer {
-            Ok(n) => Answer::Called(Ok(()), Values::Number(n)),
-            Err(refusal) => Answer::Called(Err(refusal), Values::Nothing),
-        }
+impl From<Result<(), Refusal>> for Answer {
+    fn from(answer: Result<(), Refusal>) -> Answer {
+        answer.map(|()| Values::Nothing).into()
     }
 }
 
@@ -63,8 +64,8 @@ impl Answer {
     fn numbers(self) -> (u8, [usize; 4]) {
         match self {
             Answer::NotUnderstood => (255, [0; 4]),
-            Answer::Called(Ok(()), values) => (0, values.row()),
-            Answer::Called(Err(refusal), values) => (u8::from(refusal), values.row()),
+            Answer::Done(values) => (0, values.row()),
+            Answer::Refused(refusal, values) => (u8::from(refusal), values.row()),
         }
     }
 
@@ -80,8 +81,8 @@ impl fmt::Display for Answer {
     fn fmt<W: fmt::Write>(&self, f: &mut fmt::Formatter<W>) -> fmt::Result {
         let word = match self {
             Answer::NotUnderstood => "not understood",
-            Answer::Called(Ok(()), _) => "done",
-            Answer::Called(Err(_), _) => "refused",
+            Answer::Done(_) => "done",
+            Answer::Refused(..) => "refused",
         };
         let (code, row) = self.numbers();
         write!(f, "{word} {code} {row:?}")

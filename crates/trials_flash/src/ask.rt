@@ -14,8 +14,10 @@ fn read<F: Flash>(flash: &F, at: Place, n: usize) -> Answer {
     let Some(out) = room.get_mut(..n) else {
         return Answer::NotUnderstood;
     };
-    let answer = flash.read(at, out);
-    Answer::Called(answer, Values::of_bytes(out))
+    match flash.read(at, out) {
+        Ok(()) => Answer::Done(Values::of_bytes(out)),
+        Err(refusal) => Answer::Refused(refusal, Values::of_bytes(out)),
+    }
 }
 
 // Programs bytes that a simple rule gives.
@@ -28,10 +30,14 @@ fn program<F: Flash>(flash: &mut F, at: Place, n: usize, bits: u8) -> Answer {
     flash.program(at, run).into()
 }
 
+fn mark<F: Flash>(flash: &F, block: usize) -> Answer {
+    flash.mark(block).map(Values::Number).into()
+}
+
 // Restarts, and looks at the mark of the first block.
 fn restart<F: Flash>(flash: &mut F) -> Answer {
     flash.restart();
-    flash.mark(0).into()
+    mark(flash, 0)
 }
 
 // Reads the eighths of a block.
@@ -48,16 +54,14 @@ fn look<F: Flash>(flash: &F, block: usize) -> Answer {
             readable |= 0x80 >> i;
         }
     }
-    Answer::Called(Ok(()), Values::Eighths { all, readable })
+    Answer::Done(Values::Eighths { all, readable })
 }
 
 // Makes the call that a line asks for.
 pub(crate) fn ask<F: Flash>(flash: &mut F, command: Command) -> Answer {
     match command {
-        Command::Card(_) | Command::Shape => {
-            Answer::Called(Ok(()), Values::Shape(flash.shape()))
-        }
-        Command::Mark { block } => flash.mark(block).into(),
+        Command::Card(_) | Command::Shape => Answer::Done(Values::Shape(flash.shape())),
+        Command::Mark { block } => mark(flash, block),
         Command::Read { at, n } => read(flash, at, n),
         Command::Program { at, n, bits } => program(flash, at, n, bits),
         Command::Erase { block } => flash.erase(block).into(),

@@ -38,7 +38,7 @@ use table::Table;
 fn answer_of(rt: &HostRuntime, table: &mut Table, line: &str) -> io::Result<Answer> {
     let words: Vec<&str> = line.split(' ').collect(rt.alloc())?;
     Ok(match parse(&words) {
-        Some(command) => table.answer(rt.alloc(), command),
+        Some(command) => table.answer(command),
         None => Answer::NotUnderstood,
     })
 }

@@ -95,7 +95,8 @@ impl Table {
         self.blocks.get_mut(home).ok_or(NotPossible)
     }
 
-    fn add_block(&mut self, heap: Global) -> Result<(), NotPossible> {
+    fn add_block(&mut self) -> Result<(), NotPossible> {
+        let heap = *self.blocks.allocator();
         self.blocks.push(Block {
             state: State::Bare,
             entries: Vec::new(heap),
@@ -120,9 +121,9 @@ impl Table {
     }
 
     // Makes a change, if it is possible.
-    fn change(&mut self, heap: Global, change: Change<'_>) -> Result<(), NotPossible> {
+    fn change(&mut self, change: Change<'_>) -> Result<(), NotPossible> {
         match change {
-            Change::Block => self.add_block(heap),
+            Change::Block => self.add_block(),
             Change::State { block, number, end } => self.set_state(block, state_of(number, end)?),
             Change::Entry {
                 place,
@@ -167,9 +168,9 @@ impl Table {
     }
 
     // What a line answers.
-    pub(crate) fn answer(&mut self, heap: Global, command: Command<'_>) -> Answer {
+    pub(crate) fn answer(&mut self, command: Command<'_>) -> Answer {
         match command {
-            Command::Change(change) => Answer::Changed(self.change(heap, change)),
+            Command::Change(change) => Answer::Changed(self.change(change)),
             Command::Question(question) => self.ask(question),
         }
     }

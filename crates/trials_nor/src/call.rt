@@ -52,67 +52,67 @@ impl fmt::Display for Answer {
     }
 }
 
-// Reads into bytes 0xa5, and prints the sum of what the buffer then holds.
-fn read<F: Flash>(rt: &HostRuntime, flash: &F, at: Place, n: usize) -> anyhow::Result<Answer> {
-    let mut out = vec![in rt.alloc(); 0xa5; n]?;
-    let answer = flash.read(at, &mut out);
-    let sum = crc32::sum_of(&out);
-    print!(rt; ", buffer {sum:08x}")?;
-    Ok(answer.into())
+// A flash that is tried, where what it is asked and answers is printed.
+#[derive(Drop)]
+pub(crate) struct Trial<'a, F> {
+    pub(crate) rt: &'a HostRuntime,
+    pub(crate) flash: F,
 }
 
-// Programs n bytes.
-pub(crate) fn program<F: Flash>(
-    rt: &HostRuntime,
-    flash: &mut F,
-    bits: u8,
-    at: Place,
-    n: usize,
-) -> anyhow::Result<Answer> {
-    let bytes: Vec<u8> = (0..n).map(|i| (i % 64) as u8 | bits).collect(rt.alloc())?;
-    Ok(flash.program(at, &bytes).into())
-}
-
-// Prints the first bytes of a block.
-pub(crate) fn look<F: Flash>(rt: &HostRuntime, flash: &F, block: usize) -> anyhow::Result<Answer> {
-    let mut out = [0; 24];
-    let answer = flash.read(Place { block, offset: 0 }, &mut out);
-    for b in out {
-        print!(rt; " {b:02x}")?;
+impl<F: Flash + Drop> Trial<'_, F> {
+    // Reads into bytes 0xa5, and prints the sum of what the buffer then holds.
+    fn read(&self, at: Place, n: usize) -> anyhow::Result<Answer> {
+        let mut out = vec![in self.rt.alloc(); 0xa5; n]?;
+        let answer = self.flash.read(at, &mut out);
+        let sum = crc32::sum_of(&out);
+        print!(self.rt; ", buffer {sum:08x}")?;
+        Ok(answer.into())
     }
-    Ok(answer.into())
-}
 
-// Makes a call; prints what is read.
-fn make<F: Flash>(rt: &HostRuntime, flash: &mut F, call: Call) -> anyhow::Result<Answer> {
-    Ok(match call {
-        Call::Read(block, offset, n) => read(rt, flash, Place { block, offset }, n)?,
-        Call::Program(bits, block, offset, n) => {
-            program(rt, flash, bits, Place { block, offset }, n)?
-        }
-        Call::Erase(block) => flash.erase(block).into(),
-        Call::Mark(block) => Answer(flash.mark(block)),
-        Call::Arm(steps, fault) => flash.arm(steps, fault).into(),
-        Call::Restart => {
-            flash.restart();
-            Answer(Ok(0))
-        }
-        Call::Look(block) => look(rt, flash, block)?,
-    })
-}
-
-// Asks the calls of a table in order, and prints each with its answer.
-pub(crate) fn try_calls<F: Flash>(
-    rt: &HostRuntime,
-    flash: &mut F,
-    title: &str,
-    calls: &[Call],
-) -> anyhow::Result<()> {
-    println!(rt; "{title}")?;
-    for call in calls {
-        print!(rt; "{call}")?;
-        let answer = make(rt, flash, *call)?;
-        println!(rt; ": {answer}")?;
+    // Programs n bytes.
+    pub(crate) fn program(&mut self, bits: u8, at: Place, n: usize) -> anyhow::Result<Answer> {
+        let bytes: Vec<u8> = (0..n)
+            .map(|i| (i % 64) as u8 | bits)
+            .collect(self.rt.alloc())?;
+        Ok(self.flash.program(at, &bytes).into())
     }
-    Ok(())
+
+    // Prints the first bytes of a block.
+    pub(crate) fn look(&self, block: usize) -> anyhow::Result<Answer> {
+        let mut out = [0; 24];
+        let answer = self.flash.read(Place { block, offset: 0 }, &mut out);
+        for b in out {
+            print!(self.rt; " {b:02x}")?;
+        }
+        Ok(answer.into())
+    }
+
+    // Makes a call; prints what is read.
+    fn make(&mut self, call: Call) -> anyhow::Result<Answer> {
+        Ok(match call {
+            Call::Read(block, offset, n) => self.read(Place { block, offset }, n)?,
+            Call::Program(bits, block, offset, n) => {
+                self.program(bits, Place { block, offset }, n)?
+            }
+            Call::Erase(block) => self.flash.erase(block).into(),
+            Call::Mark(block) => Answer(self.flash.mark(block)),
+            Call::Arm(steps, fault) => self.flash.arm(steps, fault).into(),
+            Call::Restart => {
+                self.flash.restart();
+                Answer(Ok(0))
+            }
+            Call::Look(block) => self.look(block)?,
+        })
+    }
+
+    // Asks the calls of a table in order, and prints each with its answer.
+    pub(crate) fn try_calls(&mut self, title: &str, calls: &[Call]) -> anyhow::Result<()> {
+        println!(self.rt; "{title}")?;
+        for call in calls {
+            print!(self.rt; "{call}")?;
+            let answer = self.make(*call)?;
+            println!(self.rt; ": {answer}")?;
+        }
+        Ok(())
+    }
 }

@@ -1,5 +1,5 @@
 // Cuts of the power at each step of a program and of an erase, with several faults.
-use crate::call::{Answer, Call, look, program};
+use crate::call::{Answer, Call, Trial};
 use flash::interface::Flash;
 use flash::place::Place;
 
@@ -10,54 +10,56 @@ const START: Place = Place {
     offset: 0,
 };
 
-// Prints what the block holds after a restart, and its mark.
-fn after<F: Flash>(rt: &HostRuntime, flash: &mut F) -> anyhow::Result<()> {
-    flash.restart();
-    print!(rt; ",")?;
-    let _ = look(rt, flash, 0)?;
-    let mark = Answer(flash.mark(0));
-    println!(rt; ", mark: {mark}")?;
-    Ok(())
-}
-
-// Five words into an erased block.
-fn cut_program<F: Flash>(rt: &HostRuntime, flash: &mut F, n: usize, j: u8) -> anyhow::Result<()> {
-    print!(rt; "cut program n={n} j={j:02x}")?;
-    let _ = flash.erase(0);
-    let _ = flash.arm(n, j);
-    let answer = program(rt, flash, 0, START, 20)?;
-    print!(rt; ": {answer}")?;
-    after(rt, flash)
-}
-
-// The erase of a block that holds a pattern.
-fn cut_erase<F: Flash>(rt: &HostRuntime, flash: &mut F, n: usize, j: u8) -> anyhow::Result<()> {
-    print!(rt; "cut erase n={n} j={j:02x}")?;
-    let _ = flash.erase(0);
-    let _ = program(rt, flash, 0, START, 20)?;
-    let _ = flash.arm(n, j);
-    let answer = Answer::from(flash.erase(0));
-    print!(rt; ": {answer}")?;
-    after(rt, flash)
-}
-
-pub(crate) fn try_cuts<F: Flash>(rt: &HostRuntime, flash: &mut F) -> anyhow::Result<()> {
-    println!(rt; "cuts")?;
-    for n in 0..7 {
-        for &j in &FAULTS {
-            cut_program(rt, flash, n, j)?;
-        }
+impl<F: Flash + Drop> Trial<'_, F> {
+    // Prints what the block holds after a restart, and its mark.
+    fn after(&mut self) -> anyhow::Result<()> {
+        self.flash.restart();
+        print!(self.rt; ",")?;
+        let _ = self.look(0)?;
+        let mark = Answer(self.flash.mark(0));
+        println!(self.rt; ", mark: {mark}")?;
+        Ok(())
     }
-    Ok(())
-}
 
-pub(crate) fn try_erases<F: Flash>(rt: &HostRuntime, flash: &mut F) -> anyhow::Result<()> {
-    for n in 0..2 {
-        for &j in &FAULTS {
-            cut_erase(rt, flash, n, j)?;
-        }
+    // Five words into an erased block.
+    fn cut_program(&mut self, n: usize, j: u8) -> anyhow::Result<()> {
+        print!(self.rt; "cut program n={n} j={j:02x}")?;
+        let _ = self.flash.erase(0);
+        let _ = self.flash.arm(n, j);
+        let answer = self.program(0, START, 20)?;
+        print!(self.rt; ": {answer}")?;
+        self.after()
     }
-    Ok(())
+
+    // The erase of a block that holds a pattern.
+    fn cut_erase(&mut self, n: usize, j: u8) -> anyhow::Result<()> {
+        print!(self.rt; "cut erase n={n} j={j:02x}")?;
+        let _ = self.flash.erase(0);
+        let _ = self.program(0, START, 20)?;
+        let _ = self.flash.arm(n, j);
+        let answer = Answer::from(self.flash.erase(0));
+        print!(self.rt; ": {answer}")?;
+        self.after()
+    }
+
+    pub(crate) fn try_cuts(&mut self) -> anyhow::Result<()> {
+        println!(self.rt; "cuts")?;
+        for n in 0..7 {
+            for &j in &FAULTS {
+                self.cut_program(n, j)?;
+            }
+        }
+        Ok(())
+    }
+
+    pub(crate) fn try_erases(&mut self) -> anyhow::Result<()> {
+        for n in 0..2 {
+            for &j in &FAULTS {
+                self.cut_erase(n, j)?;
+            }
+        }
+        Ok(())
+    }
 }
 
 // The second arming replaces the first; steps are counted over programs, erases and blocks.

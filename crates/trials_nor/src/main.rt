@@ -8,21 +8,23 @@ mod cuts;
 mod refusals;
 mod sizes;
 
-use anyhow::anyhow;
+use anyhow::bail;
+use call::Trial;
 use devices::nor::Nor;
 
 fn run(rt: &HostRuntime) -> anyhow::Result<()> {
     sizes::try_sizes(rt)?;
-    let mut memory = vec![in rt.alloc(); 0u8; 4 * 4096]?;
-    let Ok(mut chip) = Nor::new(&mut memory) else {
-        return Err(anyhow!("no chip"));
+    let mut memory = vec![in rt.alloc(); 0; 4 * 4096]?;
+    let Ok(flash) = Nor::new(&mut memory) else {
+        bail!("no chip");
     };
-    call::try_calls(rt, &mut chip, "refusals", &refusals::REFUSALS)?;
-    call::try_calls(rt, &mut chip, "without power", &refusals::WITHOUT_POWER)?;
-    cuts::try_cuts(rt, &mut chip)?;
-    cuts::try_erases(rt, &mut chip)?;
-    call::try_calls(rt, &mut chip, "counts", &cuts::COUNTS)?;
-    chance::try_chance(rt, &mut chip)
+    let mut trial = Trial { rt, flash };
+    trial.try_calls("refusals", &refusals::REFUSALS)?;
+    trial.try_calls("without power", &refusals::WITHOUT_POWER)?;
+    trial.try_cuts()?;
+    trial.try_erases()?;
+    trial.try_calls("counts", &cuts::COUNTS)?;
+    trial.try_chance()
 }
 
 fn main(rt: HostRuntime) -> anyhow::Result<()> {

@@ -76,17 +76,20 @@ fn show_items(rt: &HostRuntime, image: Image<'_>) -> anyhow::Result<()> {
 }
 
 // How many items a walk meets.
-fn count(bytes: &[u8], readable: &[bool]) -> usize {
-    Reader::new(0, Image { bytes, readable }).count()
+fn count(image: Image<'_>) -> usize {
+    Reader::new(0, image).count()
 }
 
 // For each page: how many items are met if it alone cannot be read.
-fn without_one(rt: &HostRuntime, block: &[u8]) -> anyhow::Result<()> {
+fn without_one(rt: &HostRuntime, bytes: &[u8]) -> anyhow::Result<()> {
     print!(rt; "items without page 0, 1, ..:")?;
     for page in 0..PAGES {
         let mut readable = [true; BLOCK / 4];
         readable[page] = false;
-        let items = count(block, &readable);
+        let items = count(Image {
+            bytes,
+            readable: &readable,
+        });
         print!(rt; " {items}")?;
     }
     println!(rt; "")?;
@@ -94,10 +97,13 @@ fn without_one(rt: &HostRuntime, block: &[u8]) -> anyhow::Result<()> {
 }
 
 // For each number of pages: how many items are met if only so many have a flag.
-fn with_few(rt: &HostRuntime, block: &[u8]) -> anyhow::Result<()> {
+fn with_few(rt: &HostRuntime, bytes: &[u8]) -> anyhow::Result<()> {
     print!(rt; "items with flags for 0, 1, .. pages:")?;
     for pages in 0..PAGES {
-        let items = count(block, &[true; PAGES][..pages]);
+        let items = count(Image {
+            bytes,
+            readable: &[true; PAGES][..pages],
+        });
         print!(rt; " {items}")?;
     }
     println!(rt; "")?;
