@@ -2,7 +2,7 @@
 use crate::show::Shown;
 use anyhow::Context;
 use bench_parts::log::Log;
-use bench_parts::pieces::{content, entry};
+use bench_parts::pieces::{ROOT, TOP, TRACK, content, entry};
 use bench_parts::show::{Answer, Mark};
 use encode::filler::marker;
 use encode::node::{Node, encode};
@@ -16,13 +16,6 @@ pub(crate) const BLOCK: usize = 4096;
 
 // The block that the task works on.
 const WORK: usize = 2;
-
-// The numbers of the root, of a directory and of a file.
-const ROOT: u32 = 1;
-
-const TOP: u32 = 2;
-
-const TRACK: u32 = 3;
 
 // A card, and what was asked for on the block. `run` is the buffer that items are made in.
 #[derive(Drop)]

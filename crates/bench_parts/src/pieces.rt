@@ -6,6 +6,13 @@ ghost use Rattle.bench_parts.specs.Pieces.{entry_of, content_of};
 use kinds::FileKind;
 use nodes::record::{Content, Entry};
 
+// The numbers of the root, of a directory and of a file.
+pub const ROOT: u32 = 1;
+
+pub const TOP: u32 = 2;
+
+pub const TRACK: u32 = 3;
+
 // A name in a directory, in its first version.
 pub fn entry(pino: u32, ino: u32, kind: FileKind, name: &[u8]) -> Entry<'_>
     ensures { entry_shown result ≡ entry_of pino ino kind name.now }

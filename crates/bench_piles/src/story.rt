@@ -1,16 +1,10 @@
-// What the task does on a block: what it lays, and where the power goes.
+// What the task does on a block: what it lays, and where the power goes. The nodes are those of the other bench: each is laid and
+// printed as it is made, and entries and contents are two types, so that no table could hold them for both.
 use crate::task::Task;
-use bench_parts::pieces::{content, entry};
+use bench_parts::pieces::{ROOT, TOP, TRACK, content, entry};
 use flash::interface::Flash;
 use kinds::FileKind;
 use std::io;
-
-// The numbers of the root, of a directory and of a file.
-const ROOT: u32 = 1;
-
-const TOP: u32 = 2;
-
-const TRACK: u32 = 3;
 
 // A cut of the power in the step after so many, with a fault.
 #[derive(Clone, Copy)]

@@ -53,7 +53,7 @@ impl Block<'_> {
         array::from_fn(|i| self.in_use(i))
     }
 
-    // The end of the last page that is in use.
+    // The end of the last page that is in use. As for bytes, but a function for both would take what is empty as a closure.
     pub(crate) fn mark(&self) -> usize
         ensures { result ≡ mark_of self.now.page self.now.lost.now self.now.bytes.now }
     {

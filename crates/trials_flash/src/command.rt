@@ -12,7 +12,7 @@ pub(crate) struct Card {
     pub(crate) page: usize,
 }
 
-// What a line asks for.
+// What a line asks for, as data: lines are read at run time.
 #[derive(Clone, Copy)]
 pub(crate) enum Command {
     Card(Card),
@@ -26,6 +26,7 @@ pub(crate) enum Command {
     Look { block: usize },
 }
 
+// The numbers of a line. Each program with a script reads those that its lines have, in a line of `parse` each.
 fn number<N: FromStr<Err = ParseIntError>>(word: &str) -> Option<N> {
     word.parse().ok()
 }

@@ -2,7 +2,7 @@
 use flash::place::Place;
 use index::record::ContentRecord;
 
-// What a line asks for.
+// What a line asks for, as data: lines are read at run time.
 #[derive(Clone, Copy)]
 pub(crate) enum Command<'a> {
     Change(Change<'a>),

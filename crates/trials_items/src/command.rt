@@ -3,7 +3,7 @@ use nodes::record::{Content, Entry};
 use std::array;
 use trials::sample::{content, entry};
 
-// What a line asks for.
+// What a line asks for, as data: lines are read at run time.
 #[derive(Clone, Copy)]
 pub(crate) enum Command<'a> {
     Block,

@@ -6,7 +6,7 @@ use std::fmt;
 
 // What is asked, with a block, an offset and a number of bytes where it wants them. The first number of a program says which
 // bytes: byte i is i modulo 64 with the bits of that number set. With names for the fields each row of the tables would take
-// five lines.
+// five lines. They are data, as each is printed before it is made.
 #[derive(Clone, Copy)]
 pub(crate) enum Call {
     Read(usize, usize, usize),
