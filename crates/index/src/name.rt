@@ -36,6 +36,10 @@ impl TryFrom<&[u8]> for Name {
 }
 
 impl fmt::Display for NameTooLong {
+    ghost use Rattle.std.specs.Prelude.{Some, codes};
+
+    ghost output = { λ _. Some (codes "a name of more than 32 bytes") };
+
     fn fmt<W: fmt::Write>(&self, f: &mut fmt::Formatter<W>) -> fmt::Result {
         f.write_str("a name of more than 32 bytes")
     }
