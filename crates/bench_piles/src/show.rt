@@ -1,4 +1,4 @@
-// How items and shapes are shown.
+// How items and shapes are shown. `bench` shows the same in other words, so each has its own.
 use bench_parts::show::text;
 use flash::place::Shape;
 use nodes::item::Item;

@@ -53,7 +53,8 @@ impl Block<'_> {
         array::from_fn(|i| self.in_use(i))
     }
 
-    // The end of the last page that is in use. As for bytes, but a function for both would take what is empty as a closure.
+    // The end of the last page that is in use. As for bytes, but with a function for both, its closure and what it
+    // says of it would be longer than the chain.
     pub(crate) fn mark(&self) -> usize
         ensures { result ≡ mark_of self.now.page self.now.lost.now self.now.bytes.now }
     {

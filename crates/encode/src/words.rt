@@ -8,7 +8,7 @@ use crc32::sum_of;
 use kinds::Kind;
 
 // Writes words at a place, each with its low byte first; by index, since behind `chunks_exact_mut` a proof knows how long a
-// row is, and no byte of it.
+// row is, and no byte of it (tried).
 pub(crate) fn put_words(out: &mut [u8], at: usize, words: &[u32])
     requires { at + 4 * length words.now ≤ length out.old }
     ensures { out.new ≡ over out.old at (spread words.now) }

@@ -1,5 +1,5 @@
 // The symbols of `exports` that Rust and C programs link, as a static library. Each calls the function of its name, and
-// promises what that promises.
+// promises what that promises; a crate is a library or a static library, and not both.
 #![tactic(auto)]
 
 ghost use Rattle.std.specs.Prelude.{◌≡◌, true, length, replicate};

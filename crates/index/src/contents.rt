@@ -1,5 +1,6 @@
 // What is looked up among the contents: lengths of files, and which content gives a byte. A byte is asked for by a number and a
 // place, as callers have them: a struct of the two would be made for each call and taken apart at once.
+// Blocks come as a slice beside what is asked: a struct round that slice would say no more.
 ghost use Rattle.std.specs.Prelude.{◌≡◌};
 ghost use Rattle.tree.specs.Lookups.{last, giver, length_of};
 ghost use Rattle.index.specs.Blocks.{all_contents};

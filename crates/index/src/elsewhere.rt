@@ -1,4 +1,5 @@
-// Twins in other blocks: records of one kind, number and version, which are copies of one node.
+// Twins in other blocks: records of one kind, number and version, which are copies of one node. Blocks come as a slice beside the
+// number of one of them: a struct round that slice would say no more.
 ghost use Rattle.std.specs.Prelude.{◌≡◌, suc, ◌&&◌, take, drop, ◌==◌};
 ghost use Rattle.std.specs.List.{flat_map, list_any};
 ghost use Rattle.index.specs.Missed.{kept_in, elsewhere};

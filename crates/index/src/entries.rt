@@ -1,5 +1,5 @@
 // What is looked up among the entries: names, and what they stand for. A directory and a name are two arguments, as a struct would
-// be made for each call and taken apart at once.
+// be made for each call and taken apart at once. Blocks come as a slice: a struct round that slice would say no more.
 ghost use Rattle.std.specs.Prelude.{◌≡◌};
 ghost use Rattle.tree.specs.Lookups.{title, counts, named};
 ghost use Rattle.index.specs.Blocks.{all_entries};

@@ -1,4 +1,4 @@
-// The two kinds of record, by what is the same in both.
+// The two kinds of record, by what is the same in both. The two impls look alike, as each gives fields of its own.
 ghost use Rattle.std.specs.Prelude.{◌≡◌, ℕ, max, List};
 ghost use Rattle.index.specs.declared.block.Block.{Block as TheBlock};
 ghost use Rattle.index.specs.Blocks.{entries_in, contents_in};

@@ -1,4 +1,4 @@
-// Which nodes the tree cannot do without.
+// Which nodes the tree cannot do without. Blocks come as a slice beside a record: a struct round that slice would say no more.
 ghost use Rattle.std.specs.Prelude.{◌≡◌, ◌+◌, ◌^◌, ◌<◌, min};
 ghost use Rattle.std.specs.List.{flat_map};
 ghost use Rattle.tree.specs.Lookups.{any_below, outlives, giver, last, length_of, shows};
@@ -67,7 +67,8 @@ pub trait Node: Record {
     fn is_needed(&self, blocks: &[Block]) -> bool
         ensures { result ≡ need blocks.now (node self.now) };
 
-    // Whether a block other than `home` that is not spent has a twin.
+    // Whether a block other than `home` that is not spent has a twin. One line in each impl, as what ties the twins of a node to
+    // those of its record is proved kind by kind.
     fn has_twin(&self, blocks: &[Block], home: usize) -> bool
         ensures { result ≡ has_twin twin_of (node self.now) (flat_map (kept_in nodes_in) (elsewhere home blocks.now)) };
 }

@@ -8,7 +8,8 @@ pub trait Digest: Copy {
 
     ghost number: { ℕ → Self };
 
-    // The digest that a byte is, to begin with or to take in.
+    // The digest that a byte is, to begin with or to take in. Not `From<u8>`: that says by a relation which digest it is, and
+    // `digest_of` wants it as a function.
     fn of_byte(byte: u8) -> Self
         ensures { result ≡ number byte };
 

@@ -26,7 +26,7 @@ pub(crate) enum Command {
     Look { block: usize },
 }
 
-// The numbers of a line. Each program with a script reads those that its lines have, in a line of `parse` each.
+// Numbers of any width; `trials_index` takes those of 32 bits, and `trials_items` 0 where there is none.
 fn number<N: FromStr<Err = ParseIntError>>(word: &str) -> Option<N> {
     word.parse().ok()
 }

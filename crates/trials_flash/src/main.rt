@@ -28,6 +28,7 @@ mod part;
 use part::Part;
 use std::io;
 
+// As in the other programs that read a script: what is printed can stand in no contract, and so in no function that they share.
 fn main(rt: HostRuntime) -> io::Result<()> {
     let script = io::read_to_string(rt.alloc(), rt.stdin())?;
     for text in script.split('#') {

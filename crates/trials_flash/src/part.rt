@@ -70,7 +70,7 @@ impl Part<'_> {
         self.call(&mut chip)
     }
 
-    // One function over what either `new` answers has no proof: a chip of any type beside memory that is handed back.
+    // One function over what either `new` answers was tried, and has no proof: a chip of any type beside memory that is handed back.
     fn on_nor(self, memory: &mut [u8], buffered: bool) -> io::Result<()> {
         match Nor::new(memory) {
             Ok(chip) => self.on_chip(chip, buffered),

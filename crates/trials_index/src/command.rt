@@ -44,6 +44,7 @@ pub(crate) enum Question<'a> {
     States,
 }
 
+// Numbers of 32 bits; `trials_flash` takes any, and `trials_items` 0 where there is none.
 fn number(word: &str) -> Option<u32> {
     word.parse().ok()
 }

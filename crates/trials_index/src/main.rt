@@ -62,6 +62,7 @@ fn try_part(rt: &HostRuntime, part: &str) -> io::Result<()> {
     Ok(())
 }
 
+// As in the other programs that read a script: what is printed can stand in no contract, and so in no function that they share.
 fn main(rt: HostRuntime) -> io::Result<()> {
     let script = io::read_to_string(rt.alloc(), rt.stdin())?;
     for part in script.split('#') {

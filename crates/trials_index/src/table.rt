@@ -49,7 +49,7 @@ fn state_of(number: u32, end: usize) -> Result<State, NotPossible> {
     }
 }
 
-// The number of a state.
+// The number of a state. No `From`: the type is the index's, and the number is the script's.
 fn number_of(state: State) -> usize {
     match state {
         State::Spent => 1,

@@ -36,7 +36,7 @@ pub(crate) enum Command<'a> {
     },
 }
 
-// The number that a word stands for, or 0.
+// The number that a word stands for, or 0; the other programs with scripts do not understand such a line.
 fn number(word: &str) -> usize {
     word.parse().unwrap_or(0)
 }

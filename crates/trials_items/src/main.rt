@@ -26,6 +26,7 @@ use block::Block;
 use command::parse;
 use std::io;
 
+// As in the other programs that read a script: what is printed can stand in no contract, and so in no function that they share.
 fn main(rt: HostRuntime) -> io::Result<()> {
     let script = io::read_to_string(rt.alloc(), rt.stdin())?;
     let mut block = Block::new();

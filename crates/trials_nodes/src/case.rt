@@ -1,4 +1,4 @@
-// A case: an image of a block, and what is changed in it.
+// A case: an image of a block, and what is changed in it. The tables of cases are data, so that their rows look alike.
 
 // What stands at the place of a case before any change.
 #[derive(Clone, Copy)]

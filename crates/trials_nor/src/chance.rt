@@ -6,10 +6,10 @@ use flash::place::Place;
 use trials::digest::Digest;
 use trials::random::Random;
 
-impl Answer {
-    // The answer as a number.
-    fn number(self) -> u32 {
-        match self.0 {
+// The answer as a number.
+impl From<Answer> for u32 {
+    fn from(Answer(answer): Answer) -> u32 {
+        match answer {
             Ok(value) => (value % 65536) as u32,
             Err(refusal) => 65536 + u32::from(u8::from(refusal)),
         }
@@ -42,7 +42,7 @@ impl<F: Flash + Drop> Trial<'_, F> {
         let n = random.below(300) as usize;
         let mut out = vec![in self.rt.alloc(); 0xa5; n]?;
         let answer = Answer::from(self.flash.read(Place { block, offset }, &mut out));
-        Ok(crc32::sum_of(&out).with(answer.number()))
+        Ok(crc32::sum_of(&out).with(answer.into()))
     }
 
     // Programs up to 36 bytes, mostly whole words.
@@ -51,24 +51,24 @@ impl<F: Flash + Drop> Trial<'_, F> {
         let bits = random.below(256) as u8;
         let more = u32::from(random.below(10) == 0);
         let n = random.below(9) * 4 + more;
-        Ok(self.program(bits, at, n as usize)?.number())
+        Ok(self.program(bits, at, n as usize)?.into())
     }
 
     // One call, whose answer is a number.
     fn turn(&mut self, random: &mut Random) -> anyhow::Result<u32> {
         let block = random.below(9) as usize / 2;
         Ok(match random.below(10) {
-            0 => Answer::from(self.flash.erase(block)).number(),
+            0 => Answer::from(self.flash.erase(block)).into(),
             1 => {
                 let steps = random.below(12) as usize;
                 let fault = random.below(256) as u8;
-                Answer::from(self.flash.arm(steps, fault)).number()
+                Answer::from(self.flash.arm(steps, fault)).into()
             }
             2 => {
                 self.flash.restart();
                 0
             }
-            3 => Answer(self.flash.mark(block)).number(),
+            3 => Answer(self.flash.mark(block)).into(),
             4 | 5 => self.glance(random, block)?,
             _ => self.write(random, block)?,
         })
