@@ -1,5 +1,5 @@
 // Items and bytes of two blocks, compared.
-ghost use Rattle.std.specs.Prelude.{◌≡◌, ◌<◌, ◌≤◌, length, drop};
+ghost use Rattle.std.specs.Prelude.{◌≡◌, ◌+◌, ◌≤◌, length, drop};
 ghost use Rattle.nodes.specs.Image.{seen_in};
 ghost use Rattle.nodes.specs.Views.{item_shown};
 ghost use Rattle.nodes.specs.Walk.{alike};
@@ -20,12 +20,12 @@ pub(crate) fn counted_of(item: Item<'_>) -> usize
     }
 }
 
+// How many bytes are compared at once.
+const PART: usize = 64;
+
 // Whether the n bytes at a place can be read in both blocks and are the same. Of the two images neither belongs to the other, so
 // they are no struct.
-pub(crate) fn are_same(want: Image<'_>, got: Image<'_>, at: usize, n: usize) -> bool
-    requires want { at ≤ length want.bytes.now }
-    requires got { at ≤ length got.bytes.now }
-    requires some { 0 < n }
+fn part_is_same(want: Image<'_>, got: Image<'_>, at: usize, n: usize) -> bool
     ensures { result ≡ alike n (drop at (seen_in want.entry)) (drop at (seen_in got.entry)) }
 {
     let meant = want.bytes_at(at, n);
@@ -33,4 +33,18 @@ pub(crate) fn are_same(want: Image<'_>, got: Image<'_>, at: usize, n: usize) -> 
     meant
         .zip(found)
         .is_some_and(|(meant, found)| meant == found)
+}
+
+// The same in parts, so that a long item is left where it first differs or cannot be read.
+pub(crate) fn are_same(want: Image<'_>, got: Image<'_>, at: usize, n: usize) -> bool
+    requires { at + n ≤ length want.bytes.now }
+    ensures { result ≡ alike n (drop at (seen_in want.entry)) (drop at (seen_in got.entry)) }
+{
+    let end = at + n;
+    for i in (at..end).step_by(PART) {
+        if !part_is_same(want, got, i, PART.min(end - i)) {
+            return false;
+        }
+    }
+    true
 }

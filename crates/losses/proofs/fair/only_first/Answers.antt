@@ -1,4 +1,4 @@
-use Rattle.std.proofs.Common.{ap, ◌∙◌, arith}
+use Rattle.std.proofs.Common.{ap, ◌∙◌}
 use Rattle.nodes.specs.Reading.{rest}
 use Rattle.losses.proofs.Lockstep.{begun, none_met, too_many, turn_of}
 use Rattle.losses.proofs.fair.only_first.Goals as goal
@@ -21,8 +21,7 @@ are_same-requires c =
     let t =
     turn_of c.args.want c.args.got c.loop-met.before.block c.loop-met.invariant.judging c.in-Some.ensures.steps.yields c.in-Some-next.ensures.steps.first
     c.in-Some-next.ensures.steps.others c.counted_of.ensures in
-    let within = t.within in
-    record { want = omega arith; got = omega arith; some = t.some }
+    t.within
 
 pub returns-then-not-are_same : goal.returns-then-not-are_same
 returns-then-not-are_same c =
