@@ -1,15 +1,15 @@
 -- What a chip means, by what its blocks hold; and when it refuses a call.
-use Rattle.std.proofs.Common.{◌≡◌, ℕ, Bool, true, false, cond, not, eqb, List, Some, None, Ok, Err, Option, refl, ap, ◌∙◌}
+use Rattle.std.proofs.Common.{◌≡◌, ℕ, Bool, true, false, cond, not, eqb, nat_lt, List, [], ◌∷◌, Some, None, Ok, Err, Option, refl, ap, ◌∙◌}
 use Rattle.flash.specs.declared.refusal.Refusal.{Refusal}
-use Rattle.flash.specs.declared.refusal.Refusal.TheVariants.{Unreadable}
+use Rattle.flash.specs.declared.refusal.Refusal.TheVariants.{NotPages, BelowMark, Unreadable}
 use Rattle.flash.specs.Cells.{Cell}
 use Rattle.flash.specs.Meaning.{Meaning, Power, with_at}
-use Rattle.flash.specs.Refused.{place_refusal, program_refusal, read_refusal, other_held, readable, part}
-use Rattle.flash.specs.Rules.{answered, mark_answer}
+use Rattle.flash.specs.Refused.{first, place_refusal, program_refusal, read_refusal, other_held, readable, part}
+use Rattle.flash.specs.Rules.{Answer, answered, mark_answer}
 use Rattle.flash.proofs.Refusals.{refused_as, not_refused, program_by_place, program_past_place, read_by_place, read_past_place, none_other}
 use Rattle.devices.specs.declared.supply.Supply.{Supply}
 use Rattle.devices.specs.Steps.{power_of}
-use Rattle.devices.specs.Bank.{run_refusal, allowed, chip}
+use Rattle.devices.specs.Bank.{cuts, pages_refusal, mark_refusal, run_refusal, allowed, chip}
 
 cond_ap : {X Y : Type 0} (g : X → Y) (v : Bool) (x y : X) → g (cond v x y) ≡ cond v (g x) (g y)
 cond_ap g true x y = refl
@@ -23,6 +23,22 @@ allowed_none (Some e) h = absurd (cc)
 pub allowed_some : (x : Option Refusal) (e : Refusal) → Err e ≡ allowed x → x ≡ Some e
 allowed_some None e h = absurd (cc)
 allowed_some (Some d) e h = cc
+
+-- the two tests of a run, one after the other
+cut_first : (c d : Bool) (e : Refusal) → Err e ≡ allowed (first ((c, NotPages) ∷ [])) → Err e ≡ allowed (first ((c, NotPages) ∷ (d, BelowMark) ∷ []))
+cut_first true d e h = h
+cut_first false d e h = absurd (cc)
+
+whole_first : (c d : Bool) (r : Answer) → Ok tt ≡ allowed (first ((c, NotPages) ∷ [])) → r ≡ allowed (first ((d, BelowMark) ∷ []))
+    → r ≡ allowed (first ((c, NotPages) ∷ (d, BelowMark) ∷ []))
+whole_first true d r w h = absurd (cc)
+whole_first false d r w h = h
+
+run_cut : (page mark o n : ℕ) (e : Refusal) → Err e ≡ allowed (pages_refusal page o n) → Err e ≡ allowed (run_refusal page mark o n)
+run_cut page mark o n e h = cut_first (cuts page o n) (nat_lt o mark) e h
+
+run_whole : (page mark o n : ℕ) (r : Answer) → Ok tt ≡ allowed (pages_refusal page o n) → r ≡ allowed (mark_refusal mark o) → r ≡ allowed (run_refusal page mark o n)
+run_whole page mark o n r w h = whole_first (cuts page o n) (nat_lt o mark) r w h
 
 module _ {B : Type 0} (show : B → List Cell) (mark : B → ℕ) (n size p : ℕ) (f : ℕ → B) (s : Supply) where
   -- the chip, with xs shown and zs settled in the block b, k for its mark, and w for the power
@@ -89,11 +105,16 @@ module _ {B : Type 0} (show : B → List Cell) (mark : B → ℕ) (n size p : �
           run_is : program_refusal (chip show mark n size p f s) b o k ≡ run_refusal q m o k
           run_is = program_is not_place ∙ rw (page, marked)
 
-          pub program_not : (e : Refusal) (j : ℕ) → Err e ≡ allowed (run_refusal q m o k) → Err e ≡ answered (program_refusal (chip show mark n size p f s) b o k) j
-          program_not e j h = rw (run_is ∙ allowed_some (run_refusal q m o k) e h)
+          pub program_cut : (e : Refusal) (j : ℕ) → Err e ≡ allowed (pages_refusal q o k) → Err e ≡ answered (program_refusal (chip show mark n size p f s) b o k) j
+          program_cut e j h = rw (run_is ∙ allowed_some (run_refusal q m o k) e (run_cut q m o k e h))
 
-          pub program_may : (j : ℕ) → Ok tt ≡ allowed (run_refusal q m o k) → Ok j ≡ answered (program_refusal (chip show mark n size p f s) b o k) j
-          program_may j h = rw (run_is ∙ allowed_none (run_refusal q m o k) h)
+          pub program_below : (e : Refusal) (j : ℕ) → Ok tt ≡ allowed (pages_refusal q o k) → Err e ≡ allowed (mark_refusal m o)
+              → Err e ≡ answered (program_refusal (chip show mark n size p f s) b o k) j
+          program_below e j w h = rw (run_is ∙ allowed_some (run_refusal q m o k) e (run_whole q m o k (Err e) w h))
+
+          pub program_may : (j : ℕ) → Ok tt ≡ allowed (pages_refusal q o k) → Ok tt ≡ allowed (mark_refusal m o)
+              → Ok j ≡ answered (program_refusal (chip show mark n size p f s) b o k) j
+          program_may j w h = rw (run_is ∙ allowed_none (run_refusal q m o k) (run_whole q m o k (Ok tt) w h))
 
         -- and of what can be read
         pub read_not : (j : ℕ) → true ≡ not (readable (part (show (f b)) o k)) → Err Unreadable ≡ answered (read_refusal (chip show mark n size p f s) b o k) j

@@ -5,7 +5,10 @@
 -- HasBlock        a block of size bytes is there, among so many bytes
 -- holds_blocks    whether so many bytes are 4 to 16 whole blocks
 -- placed          the refusal of a call at a place, for n bytes from there
--- run_refusal     the refusal of a run of n bytes at an offset, by the bytes of a page and the mark of the block
+-- cuts            whether n bytes at an offset are not whole pages, by the bytes of a page
+-- pages_refusal   the refusal of n bytes at an offset that are not whole pages
+-- mark_refusal    that of an offset below the mark of its block
+-- run_refusal     that of a run of n bytes at an offset, the first of these two
 -- allowed         what a test for refusals answers
 -- chip            what a chip means, by what its blocks hold and its supply
 -- Outcome         what a call answers, and the state and the supply after it
@@ -35,8 +38,17 @@ holds_blocks size n = cond (n % size == 0) (cond (nat_le (4 * size) n) (nat_le n
 abbrev pub placed : ℕ → ℕ → Supply → ℕ → ℕ → ℕ → Option Refusal
 placed size len s b o n = first ((is_off (power_of s), NoPower) ∷ (leaves (blocks_in size len) size b o n, Outside) ∷ [])
 
+abbrev pub cuts : ℕ → ℕ → ℕ → Bool
+cuts page o n = cond (o % page == 0) (not (n % page == 0)) true
+
+abbrev pub pages_refusal : ℕ → ℕ → ℕ → Option Refusal
+pages_refusal page o n = first ((cuts page o n, NotPages) ∷ [])
+
+abbrev pub mark_refusal : ℕ → ℕ → Option Refusal
+mark_refusal mark o = first ((nat_lt o mark, BelowMark) ∷ [])
+
 abbrev pub run_refusal : ℕ → ℕ → ℕ → ℕ → Option Refusal
-run_refusal page mark o n = first ((cond (o % page == 0) (not (n % page == 0)) true, NotPages) ∷ (nat_lt o mark, BelowMark) ∷ [])
+run_refusal page mark o n = first ((cuts page o n, NotPages) ∷ (nat_lt o mark, BelowMark) ∷ [])
 
 abbrev pub allowed : Option Refusal → Answer
 allowed None = Ok tt

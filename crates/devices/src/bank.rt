@@ -3,7 +3,7 @@ ghost use Rattle.std.specs.Prelude.{◌≡◌, ◌+◌, ◌*◌, ◌/◌, ◌<�
 ghost use Rattle.flash.specs.Rules.{answered};
 ghost use Rattle.devices.specs.Memory.{part_of, leaves, Within, laid, wiped};
 ghost use Rattle.devices.specs.Steps.{spent, taken, left_by, arming};
-ghost use Rattle.devices.specs.Bank.{blocks_in, HasBlock, holds_blocks, placed, run_refusal, allowed, outcome, rearmed};
+ghost use Rattle.devices.specs.Bank.{blocks_in, HasBlock, holds_blocks, placed, pages_refusal, mark_refusal, allowed, outcome, rearmed};
 
 use crate::memory::{spoil, tear, wipe};
 use crate::supply::{Cut, Supply};
@@ -27,6 +27,17 @@ pub struct Bank<'a> {
     ghost some: { 0 < sizes.page },
     ghost pages: { sizes.page ≤ sizes.block },
     ghost few: { sizes.block ≤ 4224 },
+}
+
+// That an offset is not below the mark of its block, or the refusal. Asked last, and by the mark itself: to find it takes a look
+// at the whole block.
+pub(crate) fn check_mark(offset: usize, mark: usize) -> Result<(), Refusal>
+    ensures { result ≡ allowed (mark_refusal mark offset) }
+{
+    if offset < mark {
+        return Err(Refusal::BelowMark);
+    }
+    Ok(())
 }
 
 impl<'a> Bank<'a> {
@@ -115,15 +126,12 @@ impl Bank<'_> {
         Ok(at.block * self.sizes.block + at.offset)
     }
 
-    // Whether n bytes at an offset may be programmed in a block with this mark, once their place is not refused.
-    pub(crate) fn allow(&self, offset: usize, n: usize, mark: usize) -> Result<(), Refusal>
-        ensures { result ≡ allowed (run_refusal self.now.sizes.page mark offset n) }
+    // That n bytes at an offset are whole pages, or the refusal.
+    pub(crate) fn check_pages(&self, offset: usize, n: usize) -> Result<(), Refusal>
+        ensures { result ≡ allowed (pages_refusal self.now.sizes.page offset n) }
     {
         if offset % self.sizes.page != 0 || n % self.sizes.page != 0 {
             return Err(Refusal::NotPages);
-        }
-        if offset < mark {
-            return Err(Refusal::BelowMark);
         }
         Ok(())
     }

@@ -6,11 +6,11 @@ ghost use Rattle.flash.specs.Rules.{answered, Programmed, Erased, Armed, Restart
 ghost use Rattle.devices.specs.Memory.{part_of, Within};
 ghost use Rattle.devices.specs.declared.supply.Supply.{Supply};
 ghost use Rattle.devices.specs.Bank.{HasBlock, holds_blocks, outcome};
-ghost use Rattle.devices.specs.Sizes.{bytes_in, size_of};
+ghost use Rattle.devices.specs.Sizes.{bytes_in, is_page, size_of};
 ghost use Rattle.devices.specs.Pages.{flags_laid, flags_wiped};
 ghost use Rattle.devices.specs.Nand.{nand, nand_program, nand_erase, nand_arm};
 
-use crate::bank::{Bank, Sizes};
+use crate::bank::{Bank, Sizes, check_mark};
 use crate::pages::{Block, NandPage};
 use crate::supply::Cut;
 use flash::interface::Flash;
@@ -23,6 +23,7 @@ pub struct Nand<'a> {
     bank: Bank<'a>,
     lost: [bool; 128],
     ghost eight: { bank.sizes.block ≡ size_of bank.sizes.page },
+    ghost kinds: { is_page bank.sizes.page ≡ true },
 }
 
 impl<'a> Nand<'a> {
@@ -92,7 +93,8 @@ impl Nand<'_> {
         ensures there { IfOk result (λ _. HasBlock self.now.bank.sizes.block (length self.now.bank.memory.now) at.block) }
     {
         let from = self.bank.locate(at, n)?;
-        self.bank.allow(at.offset, n, self.block(at.block).mark())?;
+        self.bank.check_pages(at.offset, n)?;
+        check_mark(at.offset, self.block(at.block).mark())?;
         Ok(from)
     }
 

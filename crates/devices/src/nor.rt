@@ -7,7 +7,7 @@ ghost use Rattle.devices.specs.declared.supply.Supply.{Supply};
 ghost use Rattle.devices.specs.Bank.{HasBlock, holds_blocks, outcome};
 ghost use Rattle.devices.specs.Nor.{SIZE, mark_of, nor, nor_program, nor_erase, nor_arm};
 
-use crate::bank::{Bank, Sizes};
+use crate::bank::{Bank, Sizes, check_mark};
 use flash::bytes::reach;
 use flash::interface::Flash;
 use flash::place::{Place, Shape};
@@ -55,7 +55,8 @@ impl Nor<'_> {
         ensures within { IfOk result (λ from. Within 4096 (length self.now.bank.memory.now) at.block at.offset n from) }
     {
         let from = self.bank.locate(at, n)?;
-        self.bank.allow(at.offset, n, self.mark_of(at.block))?;
+        self.bank.check_pages(at.offset, n)?;
+        check_mark(at.offset, self.mark_of(at.block))?;
         Ok(from)
     }
 }

@@ -1,7 +1,8 @@
 -- How far rows reach, also once another was laid over one behind what it held.
-use Rattle.std.proofs.Common.{◌≡◌, ℕ, zero, suc, ◌+◌, ◌-◌, ◌<◌, ◌≤◌, Bool, true, false, cond, eqb, List, [], ◌∷◌, ◌++◌, length, get_or, take, drop, replicate, sym, refl, ap, ◌∙◌, ⊎_elim, arith, take-append-drop, length-take}
+use Rattle.std.proofs.Common.{◌≡◌, ℕ, zero, suc, ◌+◌, ◌-◌, ◌<◌, ◌≤◌, Bool, true, false, cond, eqb, List, [], ◌∷◌, ◌++◌, length, get_or, take, drop, replicate, sym, refl, ap, ◌∙◌, ⊎_elim, arith, take-append-drop, length-take, bytes_eq}
 use Rattle.std.proofs.lemmas.Bool.Decides.{eqb_tells, nat_tests}
 use Rattle.std.proofs.lemmas.Bool.{cases_lt, eqb-true, eq-eqb, true≢false}
+use Rattle.std.proofs.lemmas.Slice.Eq.{bytes_eq-Decides}
 use Rattle.flash.specs.Cells.{over}
 use Rattle.flash.specs.Extent.{bump, extent, used}
 
@@ -127,3 +128,14 @@ used_below xs k f =
 
 pub used_above : (xs : List ℕ) (i : ℕ) → i < length xs → (get_or xs i 0 ≡ 255 → ⊥) → i < used xs
 used_above xs i l ne = ⊎_elim (λ k. k) (λ (k : used xs ≤ i). absurd (ne (unused xs i k l))) (cases_lt i (used xs))
+
+-- bytes reach no further for 0xFF behind them
+pub used_blank : (xs : List ℕ) (n : ℕ) → used (xs ++ replicate n 255) ≡ used xs
+used_blank xs n = extent_append (λ x. eqb x 255) xs (replicate n 255) ∙ rw (extent_empty (λ x. eqb x 255) n 255 refl)
+
+-- nor is anything lost of how far they reach where a row of 0xFF at their end is left out
+pub used_cut : (xs ys zs : List ℕ) (n : ℕ) → zs ≡ replicate n 255 → bytes_eq (drop (length xs - length zs) xs) zs ≡ true → ys ≡ take (length xs - length zs) xs → used ys ≡ used xs
+used_cut xs ys zs n blank same front =
+    let back : drop (length xs - length zs) xs ≡ replicate n 255 = (bytes_eq-Decides _ zs).0 same ∙ blank in
+    let whole : xs ≡ ys ++ replicate n 255 = sym (take-append-drop (length xs - length zs) xs) ∙ rw (front, back) in
+    sym (ap used whole ∙ used_blank ys n)
