@@ -15,6 +15,12 @@ folded_filter f p a (x ∷ xs) = go (p x) (folded_filter f p (f a x) xs) (folded
     go true more rest = more
     go false more rest = rest
 
+-- two folds in one
+pub folded_both : {X Y Z : Type 0} (f : Y → X → Y) (g : Z → X → Z) (a : Y) (b : Z) (xs : List X)
+    → fold (λ (s : Y × Z) x. (f s.0 x, g s.1 x)) (a, b) xs ≡ (fold f a xs, fold g b xs)
+folded_both f g a b [] = refl
+folded_both f g a b (x ∷ xs) = folded_both f g (f a x) (g b x) xs
+
 -- the newest of the picked ones, one record more at a time
 pub newest_picked : {R : Type 0} (version : R → ℕ) (picked : R → Bool) (rs : List R) → fold (λ best r. Some (better version best r)) None (filter picked rs) ≡ newest version picked rs
 newest_picked version picked rs = folded_filter _ picked None rs ∙ scanned version picked rs

@@ -1,4 +1,5 @@
 pub mod Folds
+pub mod Runs
 pub mod Showing
 pub mod Twins
 pub mod Rising

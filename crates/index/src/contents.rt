@@ -8,7 +8,7 @@ ghost use Rattle.index.specs.Runs.{start_after, run_at, RunsAlike};
 ghost use Rattle.index.specs.Shown.{span_shown};
 
 use crate::block::Block;
-use crate::newest::newest;
+use crate::newest::{newer, newest};
 use crate::record::ContentRecord;
 use crate::run::Run;
 
@@ -33,18 +33,26 @@ pub(crate) fn giver(blocks: &[Block], ino: u32, at: u32) -> Option<ContentRecord
     newest(blocks, |c: &ContentRecord| c.ino == ino && c.gives(at))
 }
 
-// Where the first content of a file that begins behind a byte begins, or a limit.
-fn start_after(blocks: &[Block], ino: u32, at: u32, limit: u32) -> u32
-    ensures { result ≡ start_after (all_contents blocks.now) ino at limit }
+// The newest content that gives a byte of a file, and where the first one that begins behind the byte begins, or a limit. Both are
+// found in one pass, as no content is both: one that begins behind the byte does not give it.
+fn giver_and_next(blocks: &[Block], ino: u32, at: u32, limit: u32) -> (Option<ContentRecord>, u32)
+    ensures content { result.0 ≡ giver span_shown (all_contents blocks.now) ino at }
+    ensures next { result.1 ≡ start_after (all_contents blocks.now) ino at limit }
 {
-    blocks.iter().flat_map(|b| &b.contents).fold(
-        limit,
-        |start, c| if c.ino == ino && c.offset > at {
-            start.min(c.offset)
-        } else {
-            start
-        },
-    )
+    blocks
+        .iter()
+        .flat_map(|b| &b.contents)
+        .filter(|c| c.ino == ino)
+        .fold(
+            (None, limit),
+            |(best, next), c| if c.offset > at {
+                (best, next.min(c.offset))
+            } else if c.gives(at) {
+                (newer(best, c), next)
+            } else {
+                (best, next)
+            },
+        )
 }
 
 // The content that gives a byte of a file, if any, and up to where it gives what follows, at most to a limit.
@@ -52,8 +60,7 @@ pub fn run_at(blocks: &[Block], ino: u32, at: u32, limit: u32) -> Run
     ensures value { result ≡ run_at (all_contents blocks.now) ino at limit }
     ensures alike { RunsAlike (all_contents blocks.now) ino at result.end }
 {
-    let content = giver(blocks, ino, at);
-    let next = start_after(blocks, ino, at, limit);
+    let (content, next) = giver_and_next(blocks, ino, at, limit);
     Run {
         content,
         end: content.map_or(next, |c| next.min(c.end())),

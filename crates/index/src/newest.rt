@@ -9,7 +9,7 @@ use crate::kind::Record;
 use tree::supersedes;
 
 // The newer of the best so far and one record more; the one met first, where they are twins.
-fn newer<R: Record>(best: Option<R>, one: &R) -> Option<R>
+pub(crate) fn newer<R: Record>(best: Option<R>, one: &R) -> Option<R>
     ensures { result ≡ Some (better R.version best one.now) }
 {
     let best = best.filter(|b| !supersedes(one.version(), b.version()));
