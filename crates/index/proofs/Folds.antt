@@ -1,6 +1,6 @@
 -- Folds over the records that a test picks.
-use Rattle.std.proofs.Common.{◌≡◌, ℕ, ◌+◌, min, ◌≤◌, length, count_by, Bool, true, false, cond, List, [], ◌∷◌, Some, None, fold, filter, refl, ◌∙◌, arith}
-use Rattle.std.proofs.lemmas.List.Sums.{length-filter}
+use Rattle.std.proofs.Common.{◌≡◌, ℕ, ◌+◌, min, ◌≤◌, length, count_by, Bool, true, false, cond, List, [], ◌∷◌, Some, None, fold, filter, flat_map, sym, refl, ◌∙◌, arith}
+use Rattle.std.proofs.lemmas.List.Sums.{length-filter, fold-append}
 use Rattle.tree.specs.Newest.{newest, better}
 use Rattle.tree.proofs.Newest.{scanned}
 
@@ -34,3 +34,8 @@ pub counted : {X : Type 0} (picked : X → Bool) (m : ℕ) (xs : List X) → fol
 counted picked m xs =
     let e : length (filter picked xs) ≡ count_by picked xs = length-filter picked xs in
     counted_on m 0 (filter picked xs) (omega arith) ∙ omega arith
+
+-- what is folded over rows, row by row, is folded over all their elements
+pub folded_rows : {W X Y : Type 0} (f : Y → X → Y) (g : W → List X) (a : Y) (ws : List W) → fold (λ b w. fold f b (g w)) a ws ≡ fold f a (flat_map g ws)
+folded_rows f g a [] = refl
+folded_rows f g a (w ∷ ws) = folded_rows f g (fold f a (g w)) ws ∙ sym (fold-append f a (g w) (flat_map g ws))

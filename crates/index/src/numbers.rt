@@ -9,11 +9,11 @@ use crate::block::Block;
 use crate::kind::Record;
 use crate::record::{ContentRecord, EntryRecord};
 
-// The highest version of a number among the records of a kind, and at least one found before.
-fn version_among<R: Record>(blocks: &[Block], number: u32, found: u32) -> u32
-    ensures { result ≡ fold (λ n r. greater_of number n (R.number r) (R.version r)) found (flat_map R.listed blocks.now) }
+// The highest version of a number among some records, and at least one found before.
+fn version_in<R: Record>(records: &[R], number: u32, found: u32) -> u32
+    ensures { result ≡ fold (λ n r. greater_of number n (R.number r) (R.version r)) found records.now }
 {
-    blocks.iter().flat_map(|b| R::of(b)).fold(
+    records.iter().fold(
         found,
         |n, r| if r.number() == number {
             n.max(r.version())
@@ -21,6 +21,15 @@ fn version_among<R: Record>(blocks: &[Block], number: u32, found: u32) -> u32
             n
         },
     )
+}
+
+// The same among the records of a kind, block by block: a chain over all of them would carry the block along from record to record.
+fn version_among<R: Record>(blocks: &[Block], number: u32, found: u32) -> u32
+    ensures { result ≡ fold (λ n r. greater_of number n (R.number r) (R.version r)) found (flat_map R.listed blocks.now) }
+{
+    blocks
+        .iter()
+        .fold(found, |n, b| version_in::<R>(R::of(b), number, n))
 }
 
 // The highest version that stands of a number, in either kind, or 0.
@@ -31,14 +40,20 @@ pub fn highest_version(blocks: &[Block], number: u32) -> u32
     version_among::<ContentRecord>(blocks, number, of_entries)
 }
 
-// The highest number among the records of a kind, and at least one found before.
+// The highest number among some records, and at least one found before.
+fn number_in<R: Record>(records: &[R], found: u32) -> u32
+    ensures { result ≡ fold (λ n r. max n (R.highest r)) found records.now }
+{
+    records.iter().fold(found, |n, r| n.max(r.highest()))
+}
+
+// The same among the records of a kind.
 fn number_among<R: Record>(blocks: &[Block], found: u32) -> u32
     ensures { result ≡ fold (λ n r. max n (R.highest r)) found (flat_map R.listed blocks.now) }
 {
     blocks
         .iter()
-        .flat_map(|b| R::of(b))
-        .fold(found, |n, r| n.max(r.highest()))
+        .fold(found, |n, b| number_in::<R>(R::of(b), n))
 }
 
 // The highest number that stands in any field, and at least 1, the root's.
