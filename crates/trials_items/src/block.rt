@@ -37,6 +37,12 @@ impl Block {
         }
     }
 
+    // Erases it where it stands: a new block would be made beside it, and room for that at every line.
+    fn erase(&mut self) {
+        self.bytes.fill(0xff);
+        self.readable.fill(true);
+    }
+
     // Lays bytes, given by pairs of digits, at a place.
     fn put(&mut self, at: usize, digits: &str) {
         let Some(room) = self.bytes.get_mut(at..) else {
@@ -86,7 +92,7 @@ impl Block {
     // What a line answers, if it is more than a change of the block.
     pub(crate) fn ask(&mut self, command: Command<'_>) -> Option<Answer> {
         match command {
-            Command::Block => *self = Block::new(),
+            Command::Block => self.erase(),
             Command::Put { at, digits } => self.put(at, digits),
             Command::Zero { at, n } => self.zero(at, n),
             Command::Lose { page } => self.lose(page),
