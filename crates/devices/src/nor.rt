@@ -1,5 +1,6 @@
 // A NOR chip in the caller's memory: 4 to 16 blocks of 4,096 bytes, programmed in words of four bytes that settle at once.
-ghost use Rattle.std.specs.Prelude.{◌≡◌, ◌+◌, ◌*◌, ◌<◌, ◌≤◌, true, false, length, IfOk, MatchResult};
+ghost use Rattle.std.specs.Prelude.{◌≡◌, ◌+◌, ◌*◌, ◌^◌, ◌<◌, ◌≤◌, true, false, length, IfOk, MatchResult};
+ghost use Rattle.std.specs.Int.{next_multiple_of};
 ghost use Rattle.flash.specs.Refused.{program_refusal};
 ghost use Rattle.flash.specs.Rules.{answered, Programmed, Erased, Armed, Restarted};
 ghost use Rattle.devices.specs.Memory.{part_of, Within};
@@ -16,6 +17,14 @@ use flash::refusal::Refusal;
 const PAGE: usize = 4;
 
 const BLOCK: usize = 4096;
+
+// The end of the page in which the byte before `end` lies.
+fn page_end(end: usize) -> usize
+    requires { next_multiple_of end 4 < 2 ^ 64 }
+    ensures { result ≡ next_multiple_of end 4 }
+{
+    end.next_multiple_of(PAGE)
+}
 
 #[derive(Drop)]
 pub struct Nor<'a> {
@@ -46,7 +55,7 @@ impl Nor<'_> {
         requires { HasBlock self.now.bank.sizes.block (length self.now.bank.memory.now) block }
         ensures { result ≡ mark_of (part_of SIZE self.now.bank.memory.now block) }
     {
-        reach(self.bank.block(block)).next_multiple_of(PAGE)
+        page_end(reach(self.bank.block(block)))
     }
 
     // Where in the memory a program of n bytes begins, or why it is refused.

@@ -1,7 +1,17 @@
-// The bytes of a batch over those of a read.
-ghost use Rattle.std.specs.Prelude.{◌≡◌, ◌+◌, ◌-◌, ◌≤◌, min, List, length};
+// Where batches begin, and the bytes of a batch over those of a read.
+ghost use Rattle.std.specs.Prelude.{◌≡◌, ◌+◌, ◌-◌, ◌^◌, ◌<◌, ◌≤◌, min, List, length};
+ghost use Rattle.std.specs.Int.{next_multiple_of};
 ghost use Rattle.flash.specs.Cells.{Cell, cells, over};
 ghost use Rattle.flash.specs.Refused.{part};
+
+// The first place from a mark on at which a batch begins.
+pub(crate) fn raise(mark: usize, batch: usize) -> usize
+    requires some { 0 < batch }
+    requires fits { next_multiple_of mark batch < 2 ^ 64 }
+    ensures { result ≡ next_multiple_of mark batch }
+{
+    mark.next_multiple_of(batch)
+}
 
 // How many bytes two rows have in common, if from `to` on the one and from `from` on the other they lie side by side.
 pub(crate) fn shared(n: usize, to: usize, g: usize, from: usize) -> usize

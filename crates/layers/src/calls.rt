@@ -5,7 +5,7 @@ ghost use Rattle.layers.specs.Batch.{suits, turn};
 ghost use Rattle.layers.specs.WriteBuffer.{means};
 ghost use Rattle.layers.specs.Sanity.{means-sane};
 
-use crate::batch::cover;
+use crate::batch::{cover, raise};
 use crate::buffer::{State, WriteBuffer};
 use crate::causes::{begins, decide, fits, kept, left};
 use crate::run::Run;
@@ -69,7 +69,7 @@ impl<F: Flash> Flash for WriteBuffer<F> {
         let mark = self.below.mark(block)?;
         Ok(match begins(self.state, block) {
             Some(start) => start + reach(&self.held[..self.batch]),
-            None => mark.next_multiple_of(self.batch),
+            None => raise(mark, self.batch),
         })
     }
 

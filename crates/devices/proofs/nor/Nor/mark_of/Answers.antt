@@ -10,4 +10,4 @@ unfolding SIZE
 returns c =
     mark_is (part_of SIZE c.args.self.now.bank.memory.now c.args.block) _ c.reach.result
     (c.reach.ensures.value ∙ ap used (c.block.ensures ∙ ap (λ n. part_of n c.args.self.now.bank.memory.now c.args.block) c.args.self.now.block))
-    c.next_multiple_of.ensures.value
+    c.page_end.ensures

@@ -10,8 +10,8 @@ returns-in_err-mark g c =
     let x = err_from_is_err_and c.from_residual.result c.from_residual.ensures.1 in
     rw (x.1, x.2) (mark_refused _ _ _ _ _ _ c.in_err-mark.ensures)
 
-pub next_multiple_of-requires-clause-fits : goal.next_multiple_of-requires-clause-fits
-next_multiple_of-requires-clause-fits g c =
+pub raise-requires-clause-fits : goal.raise-requires-clause-fits
+raise-requires-clause-fits g c =
     let h = c.in_ok-mark.ensures in
     raised_fits (sound_of g.met.F.Flash.sane c.args.self.now) _ (mark_there _ _ _ h) _ (mark_is _ _ _ h)
 
@@ -23,4 +23,4 @@ returns-in-Some g c =
 pub returns-in-None : goal.returns-in-None
 returns-in-None g c =
     let h = c.in_ok-mark.ensures in
-    mark_had _ _ _ _ (mark_place _ _ _ h) _ (c.next_multiple_of.ensures.value ∙ mark_raised (sound_of g.met.F.Flash.sane c.args.self.now) _ c.in-None.ensures _ (mark_is _ _ _ h))
+    mark_had _ _ _ _ (mark_place _ _ _ h) _ (c.raise.ensures ∙ mark_raised (sound_of g.met.F.Flash.sane c.args.self.now) _ c.in-None.ensures _ (mark_is _ _ _ h))
