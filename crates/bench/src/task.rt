@@ -35,10 +35,12 @@ impl<F: Flash + Drop> Task<'_, F> {
             block: WORK,
             offset,
         };
+        // what was asked is printed first: there may be no memory to note it
+        print!(self.rt; "program {n} bytes at block {WORK}, offset {offset} ({what}): ")?;
         let answer = self.card.program(place, bytes);
         self.log.note(what, n, answer)?;
         let answer = Answer(answer);
-        println!(self.rt; "program {n} bytes at block {WORK}, offset {offset} ({what}): {answer}")?;
+        println!(self.rt; "{answer}")?;
         Ok(())
     }
 

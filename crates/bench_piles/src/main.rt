@@ -37,11 +37,9 @@ fn on_nor(rt: &HostRuntime, memory: &mut [u8]) -> io::Result<()> {
         steps: 9,
         fault: 0x10,
     };
-    perform(
-        &mut Task::new(rt, card),
-        "NOR, power cut in a word",
-        Some(in_word),
-    )
+    let mut task = Task::new(rt, card);
+    perform(&mut task, "NOR, power cut in a word", Some(in_word));
+    task.ends()
 }
 
 fn on_pages<F: Flash + Drop>(rt: &HostRuntime, card: F) -> io::Result<()> {
@@ -57,14 +55,16 @@ fn on_pages<F: Flash + Drop>(rt: &HostRuntime, card: F) -> io::Result<()> {
     };
     let mut task = Task::new(rt, card);
     for (title, cut) in [
-        ("restart while bytes are held", None),
-        ("power cut in a page", Some(in_page)),
-        ("power cut that makes a page unreadable", Some(off_page)),
+        ("\nwrite buffer on NAND, restart while bytes are held", None),
+        ("\nwrite buffer on NAND, power cut in a page", Some(in_page)),
+        (
+            "\nwrite buffer on NAND, power cut that makes a page unreadable",
+            Some(off_page),
+        ),
     ] {
-        print!(rt; "\nwrite buffer on NAND, ")?;
-        perform(&mut task, title, cut)?;
+        perform(&mut task, title, cut);
     }
-    Ok(())
+    task.ends()
 }
 
 fn on_nand(rt: &HostRuntime, memory: &mut [u8]) -> io::Result<()> {
@@ -83,8 +83,10 @@ fn run(rt: &HostRuntime) -> io::Result<()> {
         return rt.println("this machine does not compute as proved");
     }
     let mut memory = vec![in rt.alloc(); 0; CARD]?;
-    on_nor(rt, &mut memory)?;
-    on_nand(rt, &mut memory)
+    // both are tried, whatever could not be printed of the first
+    let nor = on_nor(rt, &mut memory);
+    let nand = on_nand(rt, &mut memory);
+    nor.and(nand).map_err(|_| io::ErrorKind::Other.into())
 }
 
 fn main(rt: HostRuntime) -> io::Result<()> {

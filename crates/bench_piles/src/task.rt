@@ -19,12 +19,14 @@ const WORK: usize = 2;
 const BLOCK: usize = 4096;
 
 // A card, and what was asked for on the block. In `bytes` items are made, and the block is read into them; `readable` has a
-// flag for each page of 4 bytes, set if it could be read.
+// flag for each page of 4 bytes, set if it could be read. After something could not be printed or noted, `failed` is set, and
+// the task goes on.
 #[derive(Drop)]
 pub(crate) struct Task<'a, F> {
     rt: &'a HostRuntime,
     card: F,
     log: Log,
+    failed: bool,
     bytes: [u8; BLOCK],
     readable: [bool; BLOCK / 4],
 }
@@ -35,23 +37,38 @@ impl<'a, F: Flash + Drop> Task<'a, F> {
             rt,
             card,
             log: Log::new(rt.alloc()),
+            failed: false,
             bytes: [0; BLOCK],
             readable: [true; BLOCK / 4],
         }
     }
 
-    // Begins under a title, on a block of which nothing is asked yet.
-    pub(crate) fn begin(&mut self, title: &str) -> io::Result<()> {
-        self.log = Log::new(self.rt.alloc());
-        let shape = Shown(self.card.shape());
-        println!(self.rt; "{title}: {shape}")
+    // Whether all was printed and noted.
+    pub(crate) fn ends(self) -> io::Result<()> {
+        if self.failed {
+            return Err(io::ErrorKind::Other.into());
+        }
+        Ok(())
     }
 
-    // Programs what was made at the log's end.
-    fn lay(&mut self, what: &'static str, made: Option<usize>) -> io::Result<()> {
+    // Keeps whether something was printed.
+    fn keep(&mut self, printed: io::Result<()>) {
+        self.failed |= printed.is_err();
+    }
+
+    // Begins under a title, on a block of which nothing is asked yet. The log keeps its memory for what is noted now.
+    pub(crate) fn begin(&mut self, title: &str) {
+        self.log.asked.clear();
+        self.log.end = 0;
+        let shape = Shown(self.card.shape());
+        self.keep(println!(self.rt; "{title}: {shape}"));
+    }
+
+    // Programs what was made at the log's end, which lies behind it if it was accepted, also where it could not be noted.
+    fn lay(&mut self, what: &'static str, made: Option<usize>) {
         let Some(bytes) = made.and_then(|n| self.bytes.get(..n)) else {
             let answer = Answer(Err(Refusal::Buffer));
-            return println!(self.rt; "{what}: {answer}");
+            return self.keep(println!(self.rt; "{what}: {answer}"));
         };
         let n = bytes.len();
         let offset = self.log.end;
@@ -60,60 +77,65 @@ impl<'a, F: Flash + Drop> Task<'a, F> {
             offset,
         };
         let answer = self.card.program(place, bytes);
-        self.log.note(what, n, answer)?;
-        let answer = Answer(answer);
-        println!(self.rt; "program at block {WORK}, offset {offset}, length {n} ({what}): {answer}")
+        let shown = Answer(answer);
+        self.keep(println!(self.rt;
+            "program at block {WORK}, offset {offset}, length {n} ({what}): {shown}"
+        ));
+        self.failed |= self.log.note(what, n, answer).is_err();
+        if answer.is_ok() {
+            self.log.end = offset.saturating_add(n);
+        }
     }
 
-    pub(crate) fn lay_marker(&mut self) -> io::Result<()> {
+    pub(crate) fn lay_marker(&mut self) {
         let made = marker(&mut self.bytes);
-        self.lay("marker", made)
+        self.lay("marker", made);
     }
 
     pub(crate) fn lay_node<const WORDS: usize, const MOST: usize, N: Node<WORDS, MOST>>(
         &mut self,
         what: &'static str,
         node: &N,
-    ) -> io::Result<()> {
+    ) {
         let made = encode(node, &mut self.bytes);
-        self.lay(what, made)
+        self.lay(what, made);
     }
 
     // Fills the batch that the last item ends in, if it is not full, so that all of it settles.
-    pub(crate) fn sync(&mut self) -> io::Result<()> {
+    pub(crate) fn sync(&mut self) {
         match filling(&mut self.bytes, self.log.end, self.card.shape().batch) {
-            Some(0) => println!(self.rt; "sync: nothing to fill"),
+            Some(0) => self.keep(println!(self.rt; "sync: nothing to fill")),
             made => self.lay("filling", made),
         }
     }
 
-    pub(crate) fn erase(&mut self) -> io::Result<()> {
+    pub(crate) fn erase(&mut self) {
         let answer = Answer(self.card.erase(WORK));
-        println!(self.rt; "erase block {WORK}: {answer}")
+        self.keep(println!(self.rt; "erase block {WORK}: {answer}"));
     }
 
-    pub(crate) fn arm(&mut self, what: &str, steps: usize, fault: u8) -> io::Result<()> {
+    pub(crate) fn arm(&mut self, what: &str, steps: usize, fault: u8) {
         let answer = Answer(self.card.arm(steps, fault));
-        println!(self.rt; "{what}: {answer}")
+        self.keep(println!(self.rt; "{what}: {answer}"));
     }
 
-    pub(crate) fn mark(&self) -> io::Result<()> {
+    pub(crate) fn mark(&mut self) {
         let mark = Mark(self.card.mark(WORK));
-        println!(self.rt; "mark of block {WORK}: {mark}")
+        self.keep(println!(self.rt; "mark of block {WORK}: {mark}"));
     }
 
-    pub(crate) fn restart(&mut self) -> io::Result<()> {
+    pub(crate) fn restart(&mut self) {
         self.card.restart();
-        println!(self.rt; "restart: done")
+        self.keep(println!(self.rt; "restart: done"));
     }
 
     // Reads the block, and prints how much of it cannot be read, if any.
-    fn read(&mut self) -> io::Result<()> {
+    fn read(&mut self) {
         let answer = Answer(read_block(&self.card, WORK, &mut self.bytes, &mut self.readable));
-        println!(self.rt; "read block {WORK}: {answer}")?;
+        self.keep(println!(self.rt; "read block {WORK}: {answer}"));
         match self.readable.iter().filter(|readable| !**readable).count() {
-            0 => Ok(()),
-            lost => println!(self.rt; "  words that cannot be read: {lost}"),
+            0 => (),
+            lost => self.keep(println!(self.rt; "  words that cannot be read: {lost}")),
         }
     }
 
@@ -129,9 +151,8 @@ impl<'a, F: Flash + Drop> Task<'a, F> {
         Ok(reached)
     }
 
-    // Reads the block, and prints what stands on it, and what was asked for and does not stand.
-    pub(crate) fn survey(&mut self) -> io::Result<()> {
-        self.read()?;
+    // Prints what stands on the block, as it was read, and what was asked for and does not stand.
+    fn show(&self) -> io::Result<()> {
         let reached = self.show_items(Image {
             bytes: &self.bytes,
             readable: &self.readable,
@@ -143,5 +164,11 @@ impl<'a, F: Flash + Drop> Task<'a, F> {
             println!(self.rt; "  lost: {what}, asked for at block {WORK}, offset {offset}")?;
         }
         Ok(())
+    }
+
+    // Reads the block, and prints what is on it; where a line of that cannot be printed, those behind it are left out.
+    pub(crate) fn survey(&mut self) {
+        self.read();
+        self.keep(self.show());
     }
 }

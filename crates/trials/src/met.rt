@@ -26,7 +26,11 @@ impl Met {
         Met {
             items: self.items.saturating_add(1),
             last: found.place.offset,
-            offence: self.offence.or(found.item.offence()),
+            // an item is judged only while no offence was found
+            offence: match self.offence {
+                Some(first) => Some(first),
+                None => found.item.offence(),
+            },
         }
     }
     // The number of the first offence, 0 where there is none.

@@ -7,7 +7,7 @@ use devices::nor::Nor;
 use devices::pages::NandPage;
 use flash::interface::Flash;
 use layers::buffer::WriteBuffer;
-use std::io;
+use std::{array, io};
 
 // The most bytes of memory.
 const MOST: usize = 131072;
@@ -18,13 +18,21 @@ pub(crate) struct Part<'a> {
     pub(crate) text: &'a str,
 }
 
-impl Part<'_> {
-    // What a line asks for, if it is understood.
-    fn command(self, line: &str) -> io::Result<Option<Command>> {
-        let words: Vec<&str> = line.split(' ').collect(self.rt.alloc())?;
-        Ok(parse(&words))
-    }
+// What a line asks for, if it is understood. None has more than five words; a sixth stands for all that are too many.
+fn command_of(line: &str) -> Option<Command> {
+    let mut rest = line.split(' ');
+    let mut n: usize = 0;
+    let words: [&str; 6] = array::from_fn(|i| match rest.next() {
+        Some(word) => {
+            n = i.saturating_add(1);
+            word
+        }
+        None => "",
+    });
+    parse(words.get(..n)?)
+}
 
+impl Part<'_> {
     // Prints what is answered where there is no flash to call.
     fn say(self, answer: Answer) -> io::Result<()> {
         let text = self.text;
@@ -36,7 +44,7 @@ impl Part<'_> {
         let quiet = self.text.ends_with("quiet");
         let mut all = 1;
         for line in self.text.lines() {
-            let answer = match self.command(line)? {
+            let answer = match command_of(line) {
                 Some(command) => ask(flash, command),
                 None => Answer::NotUnderstood,
             };
@@ -98,7 +106,7 @@ impl Part<'_> {
     // Tries the flash that the first line asks for.
     pub(crate) fn run(self) -> io::Result<()> {
         let first = self.text.lines().next().unwrap_or("");
-        let Some(Command::Card(card)) = self.command(first)? else {
+        let Some(Command::Card(card)) = command_of(first) else {
             return self.say(Answer::NotUnderstood);
         };
         let mut room = [0; MOST];

@@ -30,17 +30,30 @@ mod command;
 mod table;
 
 use answer::Answer;
-use command::parse;
-use std::io;
+use command::{Command, parse};
+use std::{array, io};
 use table::Table;
 
+// What a line asks for, if it is understood. None has more than ten words; an eleventh stands for all that are too many.
+fn command_of(line: &str) -> Option<Command<'_>> {
+    let mut rest = line.split(' ');
+    let mut n: usize = 0;
+    let words: [&str; 11] = array::from_fn(|i| match rest.next() {
+        Some(word) => {
+            n = i.saturating_add(1);
+            word
+        }
+        None => "",
+    });
+    parse(words.get(..n)?)
+}
+
 // What a line answers.
-fn answer_of(rt: &HostRuntime, table: &mut Table, line: &str) -> io::Result<Answer> {
-    let words: Vec<&str> = line.split(' ').collect(rt.alloc())?;
-    Ok(match parse(&words) {
+fn answer_of(table: &mut Table, line: &str) -> Answer {
+    match command_of(line) {
         Some(command) => table.answer(command),
         None => Answer::NotUnderstood,
-    })
+    }
 }
 
 // Tries a part, and prints each line with its answer; of a quiet part only a number for all answers.
@@ -49,7 +62,7 @@ fn try_part(rt: &HostRuntime, part: &str) -> io::Result<()> {
     let mut table = Table::new(rt.alloc());
     let mut all = 1;
     for line in part.lines() {
-        let answer = answer_of(rt, &mut table, line)?;
+        let answer = answer_of(&mut table, line);
         all = answer.taken_into(all);
         if !quiet {
             println!(rt; "{line}: {answer}")?;

@@ -14,10 +14,13 @@ pub(crate) struct Block {
     readable: [bool; 1024],
 }
 
-// The value of a hexadecimal digit, or 0.
+// The value of a hexadecimal digit, and 0 for any other byte; `to_digit` would take capitals too.
 fn value(digit: u8) -> u8 {
-    let value = char::from(digit).to_digit(16).unwrap_or(0);
-    (value % 16) as u8
+    match digit {
+        b'0'..=b'9' => digit - b'0',
+        b'a'..=b'f' => digit - b'a' + 10,
+        _ => 0,
+    }
 }
 
 // What an encoder answered, and what it left.
