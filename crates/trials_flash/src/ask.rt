@@ -10,10 +10,11 @@ const MOST: usize = 8192;
 
 // Reads into bytes 0xa5.
 fn read<F: Flash>(flash: &F, at: Place, n: usize) -> Answer {
-    let mut room = [0xa5; MOST];
-    let Some(out) = room.get_mut(..n) else {
+    if n > MOST {
         return Answer::NotUnderstood;
-    };
+    }
+    let mut room = [0xa5; MOST];
+    let out = &mut room[..n];
     match flash.read(at, out) {
         Ok(()) => Answer::Done(Values::of_bytes(out)),
         Err(refusal) => Answer::Refused(refusal, Values::of_bytes(out)),
@@ -22,10 +23,11 @@ fn read<F: Flash>(flash: &F, at: Place, n: usize) -> Answer {
 
 // Programs bytes that a simple rule gives.
 fn program<F: Flash>(flash: &mut F, at: Place, n: usize, bits: u8) -> Answer {
-    let mut room = [0; MOST];
-    let Some(run) = room.get_mut(..n) else {
+    if n > MOST {
         return Answer::NotUnderstood;
-    };
+    }
+    let mut room = [0; MOST];
+    let run = &mut room[..n];
     fill(run, bits);
     flash.program(at, run).into()
 }
