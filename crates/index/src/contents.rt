@@ -39,7 +39,7 @@ fn giver_and_next(blocks: &[Block], ino: u32, at: u32, limit: u32) -> (Option<Co
     ensures content { result.0 ≡ giver span_shown (all_contents blocks.now) ino at }
     ensures next { result.1 ≡ start_after (all_contents blocks.now) ino at limit }
 {
-    blocks
+    let (best, next) = blocks
         .iter()
         .flat_map(|b| &b.contents)
         .filter(|c| c.ino == ino)
@@ -52,7 +52,8 @@ fn giver_and_next(blocks: &[Block], ino: u32, at: u32, limit: u32) -> (Option<Co
             } else {
                 (best, next)
             },
-        )
+        );
+    (best.copied(), next)
 }
 
 // The content that gives a byte of a file, if any, and up to where it gives what follows, at most to a limit.
