@@ -64,7 +64,7 @@ impl<'a, F: Flash + Drop> Task<'a, F> {
         self.keep(println!(self.rt; "{title}: {shape}"));
     }
 
-    // Programs what was made at the log's end, which lies behind it if it was accepted, also where it could not be noted.
+    // Programs what was made, at the log's end. If that is accepted the end moves behind it, also where it could not be noted.
     fn lay(&mut self, what: &'static str, made: Option<usize>) {
         let Some(bytes) = made.and_then(|n| self.bytes.get(..n)) else {
             let answer = Answer(Err(Refusal::Buffer));

@@ -18,7 +18,8 @@ pub(crate) struct Part<'a> {
     pub(crate) text: &'a str,
 }
 
-// What a line asks for, if it is understood. None has more than five words; a sixth stands for all that are too many.
+// What a line asks for, if it is understood. None has more than five words; a sixth stands for all that are too many. As in
+// `trials_index`, but for the most words: the contract of a function for both would be longer than these lines.
 fn command_of(line: &str) -> Option<Command> {
     let mut rest = line.split(' ');
     let mut n: usize = 0;

@@ -34,7 +34,8 @@ use command::{Command, parse};
 use std::{array, io};
 use table::Table;
 
-// What a line asks for, if it is understood. None has more than ten words; an eleventh stands for all that are too many.
+// What a line asks for, if it is understood. None has more than ten words; an eleventh stands for all that are too many. As in
+// `trials_flash`, but for the most words: the contract of a function for both would be longer than these lines.
 fn command_of(line: &str) -> Option<Command<'_>> {
     let mut rest = line.split(' ');
     let mut n: usize = 0;
