@@ -1,4 +1,4 @@
--- Folds over the records that a test picks.
+-- Folds: over the records that a test picks, over rows of records, two at once, and one that is seen through a view.
 use Rattle.std.proofs.Common.{◌≡◌, ℕ, ◌+◌, min, ◌≤◌, length, count_by, Bool, true, false, cond, List, [], ◌∷◌, Some, None, fold, filter, flat_map, map, Option, sym, refl, ap, subst, ◌∙◌, arith}
 use Rattle.std.specs.Fn.{Called}
 use Rattle.std.specs.Iterator.{Drains}

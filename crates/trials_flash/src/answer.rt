@@ -61,19 +61,20 @@ impl From<Result<(), Refusal>> for Answer {
 
 impl Answer {
     // The number of the refusal, 0 where there is none, 255 where nothing was asked; and the values.
-    fn numbers(self) -> (u8, [usize; 4]) {
+    fn numbers(&self) -> (u8, [usize; 4]) {
         match self {
             Answer::NotUnderstood => (255, [0; 4]),
             Answer::Done(values) => (0, values.row()),
-            Answer::Refused(refusal, values) => (u8::from(refusal), values.row()),
+            Answer::Refused(refusal, values) => (u8::from(*refusal), values.row()),
         }
     }
 
-    // Takes the answer into a number for all of them.
-    pub(crate) fn taken_into(self, all: usize) -> usize {
+    // Takes the answer into a number for all of them. The row is gone through by reference: by value, each of its numbers would
+    // be put into an `Option` first.
+    pub(crate) fn taken_into(&self, all: usize) -> usize {
         let (code, row) = self.numbers();
-        row.into_iter()
-            .fold(all.with(usize::from(code)), usize::with)
+        row.iter()
+            .fold(all.with(usize::from(code)), |all, n| all.with(*n))
     }
 }
 

@@ -1,7 +1,5 @@
 // The lines of a script, and the bytes that they speak of.
 use flash::place::Place;
-use std::num::ParseIntError;
-use std::str::FromStr;
 
 // A flash to put together: a chip in so many bytes of memory, with a write buffer over it or without.
 #[derive(Clone, Copy)]
@@ -26,58 +24,50 @@ pub(crate) enum Command {
     Look { block: usize },
 }
 
-// Numbers of any width; `trials_index` takes those of 32 bits, and `trials_items` 0 where there is none.
-fn number<N: FromStr<Err = ParseIntError>>(word: &str) -> Option<N> {
-    word.parse().ok()
-}
-
-fn make_card(buffered: bool, [bytes, bits, page]: [&str; 3]) -> Option<Command> {
-    Some(Command::Card(Card {
-        buffered,
-        bytes: number(bytes)?,
-        bits: number(bits)?,
-        page: number(page)?,
-    }))
-}
-
-fn place(block: &str, offset: &str) -> Option<Place> {
-    Some(Place {
-        block: number(block)?,
-        offset: number(offset)?,
-    })
-}
-
-// What the words of a line ask for: of each the first, and behind it so many numbers.
-pub(crate) fn parse(words: &[&str]) -> Option<Command> {
-    Some(match words {
-        ["chip", bytes, bits, page] => make_card(false, [*bytes, *bits, *page])?,
-        ["pile", bytes, bits, page] => make_card(true, [*bytes, *bits, *page])?,
-        ["shape"] => Command::Shape,
-        ["mark", block] => Command::Mark {
-            block: number(block)?,
+// What a word asks for, with the numbers behind it.
+fn command_of(verb: &str, numbers: &[usize]) -> Option<Command> {
+    Some(match (verb, numbers) {
+        ("chip" | "pile", &[bytes, bits, page]) => Command::Card(Card {
+            buffered: verb == "pile",
+            bytes,
+            bits,
+            page,
+        }),
+        ("shape", []) => Command::Shape,
+        ("mark", &[block]) => Command::Mark { block },
+        ("read", &[block, offset, n]) => Command::Read {
+            at: Place { block, offset },
+            n,
         },
-        ["read", block, offset, n] => Command::Read {
-            at: place(block, offset)?,
-            n: number(n)?,
+        ("program", &[block, offset, n, bits]) => Command::Program {
+            at: Place { block, offset },
+            n,
+            bits: u8::try_from(bits).ok()?,
         },
-        ["program", block, offset, n, bits] => Command::Program {
-            at: place(block, offset)?,
-            n: number(n)?,
-            bits: number(bits)?,
+        ("erase", &[block]) => Command::Erase { block },
+        ("arm", &[steps, fault]) => Command::Arm {
+            steps,
+            fault: u8::try_from(fault).ok()?,
         },
-        ["erase", block] => Command::Erase {
-            block: number(block)?,
-        },
-        ["arm", steps, fault] => Command::Arm {
-            steps: number(steps)?,
-            fault: number(fault)?,
-        },
-        ["restart"] => Command::Restart,
-        ["look", block] => Command::Look {
-            block: number(block)?,
-        },
+        ("restart", []) => Command::Restart,
+        ("look", &[block]) => Command::Look { block },
         _ => return None,
     })
+}
+
+// What a line asks for, if it is understood: a word, and so many numbers behind it, at most four. `trials_index` reads its
+// lines likewise, but for the numbers' width and a name behind them: the contract of a function for both would be longer than
+// these lines.
+pub(crate) fn parse(line: &str) -> Option<Command> {
+    let mut words = line.split(' ');
+    let verb = words.next()?;
+    let mut numbers = [0; 4];
+    let mut count = 0;
+    for word in words {
+        *numbers.get_mut(count)? = word.parse().ok()?;
+        count += 1;
+    }
+    command_of(verb, numbers.get(..count)?)
 }
 
 // Fills memory, or a run to program, with bytes by a simple rule.

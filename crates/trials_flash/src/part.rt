@@ -7,7 +7,7 @@ use devices::nor::Nor;
 use devices::pages::NandPage;
 use flash::interface::Flash;
 use layers::buffer::WriteBuffer;
-use std::{array, io};
+use std::io;
 
 // The most bytes of memory.
 const MOST: usize = 131072;
@@ -16,21 +16,6 @@ const MOST: usize = 131072;
 pub(crate) struct Part<'a> {
     pub(crate) rt: &'a HostRuntime,
     pub(crate) text: &'a str,
-}
-
-// What a line asks for, if it is understood. None has more than five words; a sixth stands for all that are too many. As in
-// `trials_index`, but for the most words: the contract of a function for both would be longer than these lines.
-fn command_of(line: &str) -> Option<Command> {
-    let mut rest = line.split(' ');
-    let mut n: usize = 0;
-    let words: [&str; 6] = array::from_fn(|i| match rest.next() {
-        Some(word) => {
-            n = i.saturating_add(1);
-            word
-        }
-        None => "",
-    });
-    parse(words.get(..n)?)
 }
 
 impl Part<'_> {
@@ -45,7 +30,7 @@ impl Part<'_> {
         let quiet = self.text.ends_with("quiet");
         let mut all = 1;
         for line in self.text.lines() {
-            let answer = match command_of(line) {
+            let answer = match parse(line) {
                 Some(command) => ask(flash, command),
                 None => Answer::NotUnderstood,
             };
@@ -79,7 +64,8 @@ impl Part<'_> {
         self.call(&mut chip)
     }
 
-    // One function over what either `new` answers was tried, and has no proof: a chip of any type beside memory that is handed back.
+    // One function over what either `new` answers was tried, and has no proof: a chip of any type beside memory that is handed
+    // back.
     fn on_nor(self, memory: &mut [u8], buffered: bool) -> io::Result<()> {
         match Nor::new(memory) {
             Ok(chip) => self.on_chip(chip, buffered),
@@ -107,7 +93,7 @@ impl Part<'_> {
     // Tries the flash that the first line asks for.
     pub(crate) fn run(self) -> io::Result<()> {
         let first = self.text.lines().next().unwrap_or("");
-        let Some(Command::Card(card)) = command_of(first) else {
+        let Some(Command::Card(card)) = parse(first) else {
             return self.say(Answer::NotUnderstood);
         };
         let mut room = [0; MOST];

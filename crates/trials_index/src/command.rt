@@ -44,101 +44,87 @@ pub(crate) enum Question<'a> {
     States,
 }
 
-// Numbers of 32 bits; `trials_flash` takes any, and `trials_items` 0 where there is none.
-fn number(word: &str) -> Option<u32> {
-    word.parse().ok()
+fn place(block: u32, offset: u32) -> Place {
+    Place {
+        block: block as usize,
+        offset: offset as usize,
+    }
 }
 
-fn index(word: &str) -> Option<usize> {
-    Some(number(word)? as usize)
-}
-
-// A name is no number.
-fn name(word: &str) -> Option<&str> {
-    number(word).is_none().then_some(word)
-}
-
-fn place(block: &str, offset: &str) -> Option<Place> {
-    Some(Place {
-        block: index(block)?,
-        offset: index(offset)?,
-    })
-}
-
-// The content of the words behind its verb.
-fn content(words: &[&str]) -> Option<ContentRecord> {
-    let [block, at, ino, version, mode, isize, offset, dsize, hole] = words else {
-        return None;
-    };
-    Some(ContentRecord {
-        place: place(block, at)?,
-        length: 68,
-        ino: number(ino)?,
-        version: number(version)?,
-        mode: number(mode)?,
-        isize: number(isize)?,
-        offset: number(offset)?,
-        dsize: number(dsize)?,
-        hole: number(hole)? != 0,
-    })
-}
-
-// What the words of a line change, if they are understood.
-fn change_of<'a>(words: &[&'a str]) -> Option<Change<'a>> {
-    Some(match words {
-        ["block"] => Change::Block,
-        ["state", block, state, end] => Change::State {
-            block: index(block)?,
-            number: number(state)?,
-            end: index(end)?,
+// What a word changes, with the numbers and the name behind it.
+fn change_of<'a>(verb: &str, numbers: &[u32], name: Option<&'a str>) -> Option<Change<'a>> {
+    Some(match (verb, numbers, name) {
+        ("block", [], None) => Change::Block,
+        ("state", &[block, number, end], None) => Change::State {
+            block: block as usize,
+            number,
+            end: end as usize,
         },
-        ["entry", block, offset, pino, version, ino, dtype, text] => Change::Entry {
-            place: place(block, offset)?,
-            pino: number(pino)?,
-            version: number(version)?,
-            ino: number(ino)?,
-            dtype: number(dtype)?,
-            name: name(text)?,
+        ("entry", &[block, offset, pino, version, ino, dtype], Some(name)) => Change::Entry {
+            place: place(block, offset),
+            pino,
+            version,
+            ino,
+            dtype,
+            name,
         },
-        ["content", fields @ ..] => Change::Content(content(fields)?),
-        ["find"] => Change::Find,
+        ("content", &[block, at, ino, version, mode, isize, offset, dsize, hole], None) => {
+            Change::Content(ContentRecord {
+                place: place(block, at),
+                length: 68,
+                ino,
+                version,
+                mode,
+                isize,
+                offset,
+                dsize,
+                hole: hole != 0,
+            })
+        }
+        ("find", [], None) => Change::Find,
         _ => return None,
     })
 }
 
-// What the words of a line ask, if they are understood.
-fn question_of<'a>(words: &[&'a str]) -> Option<Question<'a>> {
-    Some(match words {
-        ["of", pino, text] => Question::Of {
-            pino: number(pino)?,
-            name: name(text)?,
-        },
-        ["next", pino, text] => Question::Next {
-            pino: number(pino)?,
-            name: name(text)?,
-        },
-        ["names", pino] => Question::Names {
-            pino: number(pino)?,
-        },
-        ["length", ino] => Question::Length { ino: number(ino)? },
-        ["run", ino, at, limit] => Question::Run {
-            ino: number(ino)?,
-            at: number(at)?,
-            limit: number(limit)?,
-        },
-        ["version", of] => Question::Version {
-            number: number(of)?,
-        },
-        ["number"] => Question::Number,
-        ["missed"] => Question::Missed,
-        ["states"] => Question::States,
+// What a word asks, with the numbers and the name behind it.
+fn question_of<'a>(verb: &str, numbers: &[u32], name: Option<&'a str>) -> Option<Question<'a>> {
+    Some(match (verb, numbers, name) {
+        ("of", &[pino], Some(name)) => Question::Of { pino, name },
+        ("next", &[pino], Some(name)) => Question::Next { pino, name },
+        ("names", &[pino], None) => Question::Names { pino },
+        ("length", &[ino], None) => Question::Length { ino },
+        ("run", &[ino, at, limit], None) => Question::Run { ino, at, limit },
+        ("version", &[number], None) => Question::Version { number },
+        ("number", [], None) => Question::Number,
+        ("missed", [], None) => Question::Missed,
+        ("states", [], None) => Question::States,
         _ => return None,
     })
 }
 
-// What the words of a line ask for, if they are understood.
-pub(crate) fn parse<'a>(words: &[&'a str]) -> Option<Command<'a>> {
-    change_of(words)
+// What a line asks for, if it is understood: behind its first word stand numbers of 32 bits, at most nine, and behind these, if
+// the line speaks of one, a name, which is no such number. `trials_flash` reads its lines likewise, but for the numbers' width
+// and the name: the contract of a function for both would be longer than these lines.
+pub(crate) fn parse(line: &str) -> Option<Command<'_>> {
+    let mut words = line.split(' ');
+    let verb = words.next()?;
+    let mut numbers = [0; 9];
+    let mut count = 0;
+    let mut name = None;
+    for word in words {
+        if name.is_some() {
+            return None;
+        }
+        match word.parse() {
+            Ok(number) => {
+                *numbers.get_mut(count)? = number;
+                count += 1;
+            }
+            Err(_) => name = Some(word),
+        }
+    }
+    let numbers = numbers.get(..count)?;
+    change_of(verb, numbers, name)
         .map(Command::Change)
-        .or_else(|| question_of(words).map(Command::Question))
+        .or_else(|| question_of(verb, numbers, name).map(Command::Question))
 }

@@ -30,28 +30,13 @@ mod command;
 mod table;
 
 use answer::Answer;
-use command::{Command, parse};
-use std::{array, io};
+use command::parse;
+use std::io;
 use table::Table;
-
-// What a line asks for, if it is understood. None has more than ten words; an eleventh stands for all that are too many. As in
-// `trials_flash`, but for the most words: the contract of a function for both would be longer than these lines.
-fn command_of(line: &str) -> Option<Command<'_>> {
-    let mut rest = line.split(' ');
-    let mut n: usize = 0;
-    let words: [&str; 11] = array::from_fn(|i| match rest.next() {
-        Some(word) => {
-            n = i.saturating_add(1);
-            word
-        }
-        None => "",
-    });
-    parse(words.get(..n)?)
-}
 
 // What a line answers.
 fn answer_of(table: &mut Table, line: &str) -> Answer {
-    match command_of(line) {
+    match parse(line) {
         Some(command) => table.answer(command),
         None => Answer::NotUnderstood,
     }

@@ -105,26 +105,13 @@ impl Table {
         Ok(())
     }
 
-    fn add_entry(&mut self, entry: EntryRecord) -> Result<(), NotPossible> {
-        self.block(entry.place.block)?.entries.push(entry)?;
-        Ok(())
-    }
-
-    fn add_content(&mut self, content: ContentRecord) -> Result<(), NotPossible> {
-        self.block(content.place.block)?.contents.push(content)?;
-        Ok(())
-    }
-
-    fn set_state(&mut self, home: usize, state: State) -> Result<(), NotPossible> {
-        self.block(home)?.state = state;
-        Ok(())
-    }
-
     // Makes a change, if it is possible.
     fn change(&mut self, change: Change<'_>) -> Result<(), NotPossible> {
         match change {
-            Change::Block => self.add_block(),
-            Change::State { block, number, end } => self.set_state(block, state_of(number, end)?),
+            Change::Block => self.add_block()?,
+            Change::State { block, number, end } => {
+                self.block(block)?.state = state_of(number, end)?;
+            }
             Change::Entry {
                 place,
                 pino,
@@ -132,32 +119,32 @@ impl Table {
                 ino,
                 dtype,
                 name,
-            } => self.add_entry(EntryRecord {
-                place,
-                length: name.len().saturating_add(40),
-                pino,
-                version,
-                ino,
-                dtype: u8::try_from(dtype)?,
-                name: Name::try_from(name.as_bytes())?,
-            }),
-            Change::Content(content) => self.add_content(content),
-            Change::Find => {
-                find_spent(&mut self.blocks);
-                Ok(())
+            } => {
+                self.block(place.block)?.entries.push(EntryRecord {
+                    place,
+                    length: name.len().saturating_add(40),
+                    pino,
+                    version,
+                    ino,
+                    dtype: u8::try_from(dtype)?,
+                    name: Name::try_from(name.as_bytes())?,
+                })?;
             }
+            Change::Content(content) => {
+                self.block(content.place.block)?.contents.push(content)?;
+            }
+            Change::Find => find_spent(&mut self.blocks),
         }
+        Ok(())
     }
 
     // The answer to a question.
     fn ask(&self, question: Question<'_>) -> Answer {
         let blocks = &self.blocks;
         match question {
-            Question::Of { pino, name } => Answer::Entry(entry_of(blocks, pino, name.as_bytes())),
-            Question::Next { pino, name } => {
-                Answer::Entry(next_entry(blocks, pino, name.as_bytes()))
-            }
-            Question::Run { ino, at, limit } => Answer::Run(run_at(blocks, ino, at, limit)),
+            Question::Of { pino, name } => entry_of(blocks, pino, name.as_bytes()).into(),
+            Question::Next { pino, name } => next_entry(blocks, pino, name.as_bytes()).into(),
+            Question::Run { ino, at, limit } => run_at(blocks, ino, at, limit).into(),
             Question::Names { pino } => Answer::Is(count_names(blocks, pino)),
             Question::Length { ino } => Answer::Is(file_length(blocks, ino) as usize),
             Question::Version { number } => Answer::Is(highest_version(blocks, number) as usize),
