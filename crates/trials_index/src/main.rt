@@ -22,7 +22,8 @@
 //     missed                        a 1, and a bit for each record: whether it would be missed without its block
 //     states                        the number of each block's state, as a digit
 //
-// Of twins the one at the lowest place is answered. A part that ends in `quiet` prints nothing but one number for its answers.
+// Numbers are of 32 bits, and a word that is such a number is no NAME. Of twins the one at the lowest place is answered. A part
+// that ends in `quiet` prints nothing but one number for its answers.
 #![tactic(auto)]
 
 mod answer;
